@@ -1,0 +1,4 @@
+pub mod Graphs
+pub mod Soundness
+pub mod Calls
+pub mod Rows

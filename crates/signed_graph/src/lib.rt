@@ -1,0 +1,147 @@
+// Graphs of at most 64 vertices whose edges are positive or negative, when one is sound, and the check that calls on a graph share.
+ghost use mathlib.Core.Path.{_≡_};
+ghost use Prim.Native.Nat.{_<_};
+ghost use Rattle.signed_graph.specs.Graphs.{edgeless};
+ghost use Rattle.signed_graph.specs.Soundness.{sound};
+ghost use Rattle.signed_graph.specs.Rows.{symmetricRow, rowSound, tableSound, disjointTables, tablesSound};
+ghost use Rattle.signed_graph.specs.Calls.{checkOf, numberOf, refusalNumber};
+
+pub const MOST_VERTICES: u64 = 64;
+
+// The largest threshold that a call takes.
+pub const MOST_THRESHOLD: u64 = 32;
+
+// The vertices are 0 to n - 1. A table has a row for each of 64 vertices: the set of its partners by edges of that sign.
+pub struct SignedGraph {
+    pub n: u64,
+    pub positive: [u64; 64],
+    pub negative: [u64; 64],
+}
+
+// Why a call on a graph is refused.
+pub enum Refusal {
+    Unsound,
+    ThresholdTooLarge,
+}
+
+// What the check of a call says.
+pub enum Check {
+    Accepted,
+    Refused(Refusal),
+}
+
+impl SignedGraph {
+    // The graph of n vertices with no edge; of no vertices for n over MOST_VERTICES.
+    pub fn new(n: u64) -> SignedGraph
+        ensures { λ r. ⌜ r ≡ edgeless n ⌝ }
+    {
+        if n <= MOST_VERTICES {
+            SignedGraph {
+                n,
+                positive: [0; 64],
+                negative: [0; 64],
+            }
+        } else {
+            SignedGraph {
+                n: 0,
+                positive: [0; 64],
+                negative: [0; 64],
+            }
+        }
+    }
+}
+
+// Whether each member of the row of p has p in its own row.
+fn symmetric_row(rows: &[u64; 64], row: u64, p: usize) -> bool
+    ensures { λ r. ⌜ r ≡ symmetricRow (now (rows .entry)) row p ⌝ }
+{
+    let mut left = row;
+    while left != 0 {
+        let q = vertex_set::lowest(left);
+        if !vertex_set::contains(rows[q], p) {
+            return false;
+        }
+        left = left & (left - 1);
+    }
+    true
+}
+
+// Whether the row of p has only the vertices of a sound one: at most `top` as a number, without p, and symmetric.
+fn row_sound(rows: &[u64; 64], top: u64, row: u64, p: usize) -> bool
+    ensures { λ r. ⌜ r ≡ rowSound (now (rows .entry)) top row p ⌝ }
+{
+    if top < row {
+        return false;
+    }
+    if vertex_set::contains(row, p) {
+        return false;
+    }
+    symmetric_row(rows, row, p)
+}
+
+// Whether every row of a table is sound.
+fn table_sound(rows: &[u64; 64], top: u64) -> bool
+    ensures { λ r. ⌜ r ≡ tableSound (now (rows .entry)) top ⌝ }
+{
+    let mut p: usize = 0;
+    while p < 64 {
+        if !row_sound(rows, top, rows[p], p) {
+            return false;
+        }
+        p += 1;
+    }
+    true
+}
+
+// Whether no row has a vertex in both tables.
+fn disjoint_tables<'a>(a: &'a [u64; 64], b: &'a [u64; 64]) -> bool
+    ensures { λ r. ⌜ r ≡ disjointTables (now (a .entry)) (now (b .entry)) ⌝ }
+{
+    let mut p: usize = 0;
+    while p < 64 {
+        if a[p] & b[p] != 0 {
+            return false;
+        }
+        p += 1;
+    }
+    true
+}
+
+// Whether both tables are sound, and disjoint.
+fn tables_sound<'a>(positive: &'a [u64; 64], negative: &'a [u64; 64], top: u64) -> bool
+    ensures { λ r. ⌜ r ≡ tablesSound (now (positive .entry)) (now (negative .entry)) top ⌝ }
+{
+    if !table_sound(positive, top) {
+        return false;
+    }
+    if !table_sound(negative, top) {
+        return false;
+    }
+    disjoint_tables(positive, negative)
+}
+
+// Whether the graph is sound.
+pub fn is_sound(g: SignedGraph) -> bool
+    ensures { λ r. ⌜ r ≡ sound g ⌝ }
+{
+    let n = g.n;
+    if MOST_VERTICES < n {
+        return false;
+    }
+    let top = vertex_set::below(n);
+    tables_sound(&g.positive, &g.negative, top)
+}
+
+// Whether a call on g with threshold k is refused: an unsound graph first, then a threshold over MOST_THRESHOLD.
+pub fn check_call(g: SignedGraph, k: u64) -> Check
+    ensures { λ r. ⌜ r ≡ checkOf g k ⌝ }
+    ensures { λ r. ⌜ numberOf r ≡ refusalNumber g k ⌝ }
+{
+    if !is_sound(g) {
+        return Check::Refused(Refusal::Unsound);
+    }
+    if MOST_THRESHOLD < k {
+        return Check::Refused(Refusal::ThresholdTooLarge);
+    }
+    Check::Accepted
+}

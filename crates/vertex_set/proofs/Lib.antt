@@ -1,0 +1,5 @@
+pub mod Booleans
+pub mod Ranges
+pub mod Membership
+pub mod Sizes
+pub mod LowestVertex

@@ -1,0 +1,266 @@
+-- Membership: what the operators on 64-bit numbers do to it; sets that have the same members are equal. Assumes nothing.
+use mathlib.Core.Path.{_≡_, refl, sym, ap, ap₂, _∙_, subst}
+use mathlib.Core.Logic.{_≢_}
+use mathlib.Core.Bool.{Bool, true, false, not, _&&_, _||_, Bool·beq, false≢true, or-false, or-comm}
+use Prim.Native.Nat.{ℕ, zero, suc, _+_, _-_, _*_, _/_, _%_, _^_, _≤_, _<_, min, max, suc-le-suc}
+use native.Mathlib.Nat.{add-comm, zero-mul, one-mul, div-one, mod-lt, zero-lt-suc, div-eq-of-lt, mul-div-cancel, mul-mod-left, pow-suc, two-pow-succ, le-of-suc-le-suc, not-suc-le-zero, lt-of-lt-of-le, lt-of-le-of-lt, mod-eq-of-lt}
+use native.Mathlib.Numerals.{one-add}
+use native.Mathlib.Omega.{arith}
+use native.Mathlib.Decide.{decLt, ℕ-discrete}
+use lib.Dec.{eqb, ltb, eqb·suc-zero, eqb·zero-suc, eqb·suc-suc, lit<, leb·suc-zero, leb·suc-suc}
+use borrow.Author.Tests.{ltb-true, ltb-false, lt-ltb, le-ltb, eq-eqb, ne-eqb, eqb-true}
+use lib.Arith.{digits-mod, lt-one}
+use lib.Pow.{shr-shr, pow-pos, pow-mono, pow-lt}
+use lib.Bits.{bitAnd, bitOr, bitXor, differ, and-step, or-step, xor-step, and-shr, or-shr, xor-shr, or-lt, or-shifted-r, and-le-l, mask-lt}
+use Rattle.vertex_set.specs.Ranges.{bit}
+use Rattle.vertex_set.specs.Sets.{mem, Subset, collect, insert, single, below}
+use Rattle.vertex_set.proofs.Booleans.{clash, cases, iff, and-intro, and-left, and-right, or-cases, or-left, or-right}
+
+-- ---- a digit is 0 or 1
+
+digit : (n : ℕ) → n % 2 < 2
+digit n = mod-lt n (zero-lt-suc 1)
+
+digits1 : (P : ℕ → Type 0) → P 0 → P 1 → (x : ℕ) → x < 2 → P x
+digits1 P p0 p1 zero h = p0
+digits1 P p0 p1 (suc zero) h = p1
+digits1 P p0 p1 (suc (suc x)) h = absurd (omega arith)
+
+digits2 : (P : ℕ → ℕ → Type 0) → P 0 0 → P 0 1 → P 1 0 → P 1 1 → (x y : ℕ) → x < 2 → y < 2 → P x y
+digits2 P p00 p01 p10 p11 x y hx hy =
+    digits1 (λ (x : ℕ). P x y) (digits1 (P 0) p00 p01 y hy) (digits1 (P 1) p10 p11 y hy) x hx
+
+-- ---- the lowest digit, and the rest
+
+pub mem-zero : (s : ℕ) → mem 0 s ≡ eqb (s % 2) 1
+unfolding mem
+mem-zero s = ap (λ (x : ℕ). eqb (x % 2) 1) (div-one s)
+
+pub mem-suc : (p s : ℕ) → mem (suc p) s ≡ mem p (s / 2)
+unfolding mem
+mem-suc p s = ap (λ (x : ℕ). eqb (x % 2) 1) (sym (shr-shr s 1 p ∙ ap (λ (k : ℕ). s / 2 ^ k) (one-add p)))
+
+-- a set below 2 ^ k has no member from k up; the empty set has none
+pub mem-past : (k p s : ℕ) → s < 2 ^ k → k ≤ p → mem p s ≡ false
+unfolding mem
+mem-past k p s h l = ap (λ (x : ℕ). eqb (x % 2) 1) (div-eq-of-lt (lt-of-lt-of-le h (pow-mono l)))
+
+pub mem-none : (p : ℕ) → mem p 0 ≡ false
+mem-none p = mem-past 0 p 0 (pow-pos 0) (omega arith)
+
+pub mem-lt : (n p s : ℕ) → s < 2 ^ n → mem p s ≡ true → p < n
+mem-lt n p s h e = go (decLt p n)
+  where
+    go : Dec (p < n) → p < n
+    go (yes x) = x
+    go (no x) = clash (mem p s) e (mem-past n p s h (omega arith))
+
+-- a set with a member is not empty
+pub mem-pos : (p s : ℕ) → mem p s ≡ true → 0 < s
+mem-pos p zero e = clash (mem p 0) e (mem-none p)
+mem-pos p (suc s) e = zero-lt-suc s
+
+-- ---- intersection, union, and what only one of two has
+
+module _ (op : ℕ → ℕ → ℕ) (f : ℕ → ℕ → ℕ) (g : Bool → Bool → Bool)
+    (step : (a b : ℕ) → op a b ≡ op (a / 2) (b / 2) * 2 + f (a % 2) (b % 2))
+    (small : (x y : ℕ) → x < 2 → y < 2 → f x y < 2)
+    (same : (x y : ℕ) → x < 2 → y < 2 → eqb (f x y) 1 ≡ g (eqb x 1) (eqb y 1))
+    (half : (a b : ℕ) → op a b / 2 ≡ op (a / 2) (b / 2)) where
+  mem-op : (p a b : ℕ) → mem p (op a b) ≡ g (mem p a) (mem p b)
+  mem-op zero a b =
+      mem-zero (op a b) ∙ ap (λ (x : ℕ). eqb x 1) odd ∙ same (a % 2) (b % 2) (digit a) (digit b)
+      ∙ ap₂ g (sym (mem-zero a)) (sym (mem-zero b))
+    where
+      odd : op a b % 2 ≡ f (a % 2) (b % 2)
+      odd = ap (λ (x : ℕ). x % 2) (step a b) ∙ digits-mod (op (a / 2) (b / 2)) (small (a % 2) (b % 2) (digit a) (digit b))
+  mem-op (suc p) a b =
+      mem-suc p (op a b) ∙ ap (mem p) (half a b) ∙ mem-op p (a / 2) (b / 2)
+      ∙ ap₂ g (sym (mem-suc p a)) (sym (mem-suc p b))
+
+pub mem-and : (p a b : ℕ) → mem p (bitAnd a b) ≡ (mem p a && mem p b)
+mem-and =
+    mem-op bitAnd min _&&_ and-step
+    (λ x y hx hy. omega arith)
+    (digits2 (λ (x y : ℕ). eqb (min x y) 1 ≡ (eqb x 1 && eqb y 1)) refl refl refl refl)
+    (λ a b. and-shr a b 1)
+
+pub mem-or : (p a b : ℕ) → mem p (bitOr a b) ≡ (mem p a || mem p b)
+mem-or =
+    mem-op bitOr max _||_ or-step
+    (λ x y hx hy. omega arith)
+    (digits2 (λ (x y : ℕ). eqb (max x y) 1 ≡ (eqb x 1 || eqb y 1)) refl refl refl refl)
+    (λ a b. or-shr a b 1)
+
+pub mem-xor : (p a b : ℕ) → mem p (bitXor a b) ≡ not (Bool·beq (mem p a) (mem p b))
+mem-xor =
+    mem-op bitXor differ (λ x y. not (Bool·beq x y)) xor-step
+    (digits2 (λ (x y : ℕ). differ x y < 2) (lit< tt) (lit< tt) (lit< tt) (lit< tt))
+    (digits2 (λ (x y : ℕ). eqb (differ x y) 1 ≡ not (Bool·beq (eqb x 1) (eqb y 1))) refl refl refl refl)
+    (λ a b. xor-shr a b 1)
+
+-- ---- complement among k vertices, and difference
+
+pub mem-not : (k p b : ℕ) → p < k → b < 2 ^ k → mem p ((2 ^ k - 1) - b) ≡ not (mem p b)
+mem-not zero p b h l = absurd (not-suc-le-zero h)
+mem-not (suc k) zero b h l =
+    let e : ((2 ^ suc k - 1) - b) % 2 ≡ 1 - b % 2 = omega (arith, pow-suc 2 k) in
+    mem-zero ((2 ^ suc k - 1) - b) ∙ ap (λ (x : ℕ). eqb x 1) e ∙ low (b % 2) (digit b) ∙ ap not (sym (mem-zero b))
+  where
+    low : (x : ℕ) → x < 2 → eqb (1 - x) 1 ≡ not (eqb x 1)
+    low = digits1 (λ (x : ℕ). eqb (1 - x) 1 ≡ not (eqb x 1)) refl refl
+mem-not (suc k) (suc p) b h l =
+    let e : ((2 ^ suc k - 1) - b) / 2 ≡ (2 ^ k - 1) - b / 2 = omega (arith, pow-suc 2 k) in
+    let l′ : b / 2 < 2 ^ k = omega (arith, pow-suc 2 k) in
+    mem-suc p ((2 ^ suc k - 1) - b) ∙ ap (mem p) e ∙ mem-not k p (b / 2) (le-of-suc-le-suc h) l′ ∙ ap not (sym (mem-suc p b))
+
+pub mem-minus : (k p a b : ℕ) → a < 2 ^ k → b < 2 ^ k → mem p (bitAnd a ((2 ^ k - 1) - b)) ≡ (mem p a && not (mem p b))
+mem-minus k p a b ha hb = mem-and p a ((2 ^ k - 1) - b) ∙ go (decLt p k)
+  where
+    go : Dec (p < k) → (mem p a && mem p ((2 ^ k - 1) - b)) ≡ (mem p a && not (mem p b))
+    go (yes x) = ap (λ (y : Bool). mem p a && y) (mem-not k p b x hb)
+    go (no x) =
+        let out : mem p a ≡ false = mem-past k p a ha (omega arith) in
+        ap (λ (y : Bool). y && mem p ((2 ^ k - 1) - b)) out ∙ ap (λ (y : Bool). y && not (mem p b)) (sym out)
+
+-- ---- sets with the same members are equal
+
+pub mem-ext : (k a b : ℕ) → a < 2 ^ k → b < 2 ^ k → ((p : ℕ) → p < k → mem p a ≡ mem p b) → a ≡ b
+mem-ext zero a b ha hb h = lt-one ha ∙ sym (lt-one hb)
+mem-ext (suc k) a b ha hb h =
+    let high : a / 2 ≡ b / 2 =
+    mem-ext k (a / 2) (b / 2) (omega (arith, pow-suc 2 k)) (omega (arith, pow-suc 2 k))
+    (λ p l. sym (mem-suc p a) ∙ h (suc p) (suc-le-suc l) ∙ mem-suc p b) in
+    let low : a % 2 ≡ b % 2 =
+    same (a % 2) (b % 2) (digit a) (digit b) (sym (mem-zero a) ∙ h zero (zero-lt-suc k) ∙ mem-zero b) in
+    omega arith
+  where
+    same : (x y : ℕ) → x < 2 → y < 2 → eqb x 1 ≡ eqb y 1 → x ≡ y
+    same =
+        digits2 (λ (x y : ℕ). eqb x 1 ≡ eqb y 1 → x ≡ y)
+        (λ e. refl) (λ e. absurd (false≢true e)) (λ e. absurd (false≢true (sym e))) (λ e. refl)
+
+-- ---- one vertex
+
+pub mem-pow : (p q : ℕ) → mem q (2 ^ p) ≡ eqb q p
+unfolding mem
+mem-pow zero zero = refl
+mem-pow zero (suc q) = mem-suc q 1 ∙ mem-none q ∙ sym (eqb·suc-zero q)
+mem-pow (suc p) zero =
+    mem-zero (2 ^ suc p) ∙ ap (λ (x : ℕ). eqb x 1) (ap (λ (x : ℕ). x % 2) (pow-suc 2 p) ∙ mul-mod-left (2 ^ p) 2) ∙ sym (eqb·zero-suc p)
+mem-pow (suc p) (suc q) =
+    mem-suc q (2 ^ suc p) ∙ ap (mem q) (ap (λ (x : ℕ). x / 2) (pow-suc 2 p) ∙ mul-div-cancel (2 ^ p) (zero-lt-suc 1))
+    ∙ mem-pow p q ∙ sym (eqb·suc-suc q p)
+
+-- what `1 << p` computes
+pub shifted : (k p : ℕ) → p < k → (1 * 2 ^ p) % 2 ^ k ≡ 2 ^ p
+shifted k p h = ap (λ (x : ℕ). x % 2 ^ k) (one-mul (2 ^ p)) ∙ mod-eq-of-lt (pow-lt h)
+
+pub mem-insert : (q p s : ℕ) → mem q (insert p s) ≡ (mem q s || eqb q p)
+mem-insert q p s = mem-or q s (2 ^ p) ∙ ap (λ (b : Bool). mem q s || b) (mem-pow p q)
+
+pub insert-in : (p s : ℕ) → mem p (insert p s) ≡ true
+insert-in p s = mem-insert p p s ∙ or-right (mem p s) (eqb p p) (eq-eqb p p refl)
+
+pub insert-keeps : (q p s : ℕ) → mem q s ≡ true → mem q (insert p s) ≡ true
+insert-keeps q p s m = mem-insert q p s ∙ or-left (mem q s) (eqb q p) m
+
+pub insert-other : (q p s : ℕ) → mem q (insert p s) ≡ true → q ≢ p → mem q s ≡ true
+insert-other q p s m d =
+    or-cases (mem q s ≡ true) (mem q s) (eqb q p) (sym (mem-insert q p s) ∙ m) (λ x. x) (λ x. absurd (d (eqb-true q p x)))
+
+-- ---- a set given by a test
+
+module _ (f : ℕ → Bool) where
+  pub collect-lt : (n : ℕ) → collect n f < 2 ^ n
+  unfolding collect
+  collect-lt zero = pow-pos 0
+  collect-lt (suc n) = go (f n) (collect-lt n)
+    where
+      go : (b : Bool) → collect n f < 2 ^ n → collect n f + bit b * 2 ^ n < 2 ^ suc n
+      go true h = omega (arith, one-mul (2 ^ n), two-pow-succ n)
+      go false h = omega (arith, zero-mul (2 ^ n), two-pow-succ n)
+
+  pub mem-collect : (n p : ℕ) → mem p (collect n f) ≡ (ltb p n && f p)
+  unfolding collect
+  mem-collect zero p = mem-none p ∙ ap (λ (b : Bool). b && f p) (sym (leb·suc-zero p))
+  mem-collect (suc n) p =
+      ap (mem p) (add-comm (collect n f) (bit (f n) * 2 ^ n) ∙ sym (or-shifted-r (bit (f n)) n (collect n f) (collect-lt n)))
+      ∙ mem-or p (collect n f) (bit (f n) * 2 ^ n)
+      ∙ ap₂ (λ (x y : Bool). x || y) (mem-collect n p) (top (f n))
+      ∙ go (ℕ-discrete p n)
+    where
+      top : (b : Bool) → mem p (bit b * 2 ^ n) ≡ (b && eqb p n)
+      top true = ap (mem p) (one-mul (2 ^ n)) ∙ mem-pow n p
+      top false = ap (mem p) (zero-mul (2 ^ n)) ∙ mem-none p
+
+      go : Dec (p ≡ n) → (ltb p n && f p || f n && eqb p n) ≡ (ltb p (suc n) && f p)
+      go (yes x) =
+          ap₂ (λ (a b : Bool). a && f p || f n && b) (le-ltb p n (omega arith)) (eq-eqb p n x)
+          ∙ mathlib.Core.Bool.and-true (f n) ∙ ap f (sym x) ∙ ap (λ (b : Bool). b && f p) (sym (lt-ltb p (suc n) (omega arith)))
+      go (no x) =
+          ap (λ (b : Bool). ltb p n && f p || f n && b) (ne-eqb p n x)
+          ∙ ap (λ (b : Bool). ltb p n && f p || b) (mathlib.Core.Bool.and-false (f n)) ∙ or-false (ltb p n && f p)
+          ∙ ap (λ (b : Bool). b && f p) (iff (ltb p n) (ltb p (suc n))
+          (λ t. lt-ltb p (suc n) (omega (arith, ltb-true p n t))) (λ t. lt-ltb p n (omega (arith, ltb-true p (suc n) t))))
+
+  -- a member passes the test, and a vertex that passes is a member
+  pub collect-at : (n p : ℕ) → p < n → mem p (collect n f) ≡ f p
+  collect-at n p h = mem-collect n p ∙ ap (λ (b : Bool). b && f p) (lt-ltb p n h)
+
+-- a set with these members is the one that the test gives
+pub collect-is : (n s : ℕ) (f : ℕ → Bool) → s < 2 ^ n → ((p : ℕ) → p < n → mem p s ≡ f p) → s ≡ collect n f
+collect-is n s f h e = mem-ext n s (collect n f) h (collect-lt f n) (λ p l. e p l ∙ sym (collect-at f n p l))
+
+-- ---- `single` and `below` as powers of two
+
+pub single-pow : (p : ℕ) → p < 64 → single p ≡ 2 ^ p
+unfolding single
+single-pow p h = sym (collect-is 64 (2 ^ p) (λ q. eqb q p) (pow-lt h) (λ q l. mem-pow p q))
+
+pub single-none : (p : ℕ) → 64 ≤ p → single p ≡ 0
+unfolding single
+single-none p h =
+    sym (collect-is 64 0 (λ q. eqb q p) (pow-pos 64) (λ q l. mem-none q ∙ sym (ne-eqb q p (omega arith))))
+
+pub mem-below : (n q : ℕ) → n ≤ 64 → mem q (below n) ≡ ltb q n
+unfolding below
+mem-below n q h = mem-collect (λ q. ltb q n) 64 q ∙ go (decLt q n)
+  where
+    go : Dec (q < n) → (ltb q 64 && ltb q n) ≡ ltb q n
+    go (yes x) = ap (λ (b : Bool). b && ltb q n) (lt-ltb q 64 (omega arith))
+    go (no x) = ap (λ (b : Bool). ltb q 64 && b) (le-ltb q n (omega arith)) ∙ mathlib.Core.Bool.and-false (ltb q 64) ∙ sym (le-ltb q n (omega arith))
+
+ones-mem : (n q : ℕ) → mem q (2 ^ n - 1) ≡ ltb q n
+ones-mem zero q = mem-none q ∙ sym (leb·suc-zero q)
+ones-mem (suc n) zero =
+    let e : (2 ^ suc n - 1) % 2 ≡ 1 = omega (arith, pow-suc 2 n, pow-pos n) in
+    mem-zero (2 ^ suc n - 1) ∙ ap (λ (x : ℕ). eqb x 1) e ∙ sym (lt-ltb zero (suc n) (zero-lt-suc n))
+ones-mem (suc n) (suc q) =
+    let e : (2 ^ suc n - 1) / 2 ≡ 2 ^ n - 1 = omega (arith, pow-suc 2 n, pow-pos n) in
+    mem-suc q (2 ^ suc n - 1) ∙ ap (mem q) e ∙ ones-mem n q ∙ sym (leb·suc-suc (suc q) n)
+
+pub below-pow : (n : ℕ) → n ≤ 64 → below n ≡ 2 ^ n - 1
+unfolding below
+below-pow n h =
+    sym (collect-is 64 (2 ^ n - 1) (λ q. ltb q n) (omega (arith, pow-mono h, pow-pos n)) (λ q l. ones-mem n q))
+
+pub below-all : (n : ℕ) → 64 ≤ n → below n ≡ 2 ^ 64 - 1
+unfolding below
+below-all n h =
+    sym (collect-is 64 (2 ^ 64 - 1) (λ q. ltb q n) (lit< tt) (λ q l. ones-mem 64 q ∙ lt-ltb q 64 l ∙ sym (lt-ltb q n (omega arith))))
+
+-- ---- a set whose members are below n is below 2 ^ n
+
+lt-pow : (s : ℕ) → s < 2 ^ s
+lt-pow zero = pow-pos 0
+lt-pow (suc s) = omega (arith, lt-pow s, two-pow-succ s)
+
+pub lt-of-members : (n s : ℕ) → ((p : ℕ) → mem p s ≡ true → p < n) → s < 2 ^ n
+lt-of-members n s small = subst (λ (x : ℕ). x < 2 ^ n) e (mask-lt s n)
+  where
+    e : bitAnd s (2 ^ n - 1) ≡ s
+    e =
+        mem-ext s (bitAnd s (2 ^ n - 1)) s (lt-of-le-of-lt (and-le-l s (2 ^ n - 1)) (lt-pow s)) (lt-pow s) (λ p _.
+        mem-and p s (2 ^ n - 1) ∙ ap (λ (b : Bool). mem p s && b) (ones-mem n p)
+        ∙ iff (mem p s && ltb p n) (mem p s) (and-left (mem p s) (ltb p n)) (λ m. and-intro (mem p s) (ltb p n) m (lt-ltb p n (small p m))))

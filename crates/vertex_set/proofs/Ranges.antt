@@ -1,0 +1,176 @@
+-- Laws of `all`, `count` and `seek` over a range of numbers. Assumes nothing.
+use Prim.Native.Nat.{ℕ, zero, suc, _+_, _≤_, _<_}
+use native.Mathlib.Nat.{not-suc-le-zero}
+use native.Mathlib.Numerals.{add-one}
+use native.Mathlib.Omega.{arith}
+use native.Mathlib.Decide.{decLt, decLe, ℕ-discrete}
+use mathlib.Core.Path.{_≡_, refl, sym, ap, ap₂, _∙_, subst}
+use mathlib.Core.Logic.{_≢_}
+use mathlib.Core.Bool.{Bool, true, false, not, _&&_, _||_}
+use lib.Dec.{ltb, eqb}
+use borrow.Author.Tests.{ltb-true, ltb-false, ne-eqb, eq-eqb}
+use Rattle.vertex_set.specs.Ranges.{bit, all, count, seek}
+use Rattle.vertex_set.proofs.Booleans.{clash, cases, and-intro, and-left, and-right}
+
+last : {n p : ℕ} → p < suc n → p ≢ n → p < n
+last h e = omega arith
+
+-- ---- all
+
+module _ (f : ℕ → Bool) where
+  pub all-at : (n : ℕ) → all n f ≡ true → (p : ℕ) → p < n → f p ≡ true
+  unfolding all
+  all-at zero e p h = absurd (not-suc-le-zero h)
+  all-at (suc n) e p h = go (ℕ-discrete p n) (all-at n (and-right (f n) (all n f) e) p)
+    where
+      go : Dec (p ≡ n) → (p < n → f p ≡ true) → f p ≡ true
+      go (yes x) r = ap f x ∙ and-left (f n) (all n f) e
+      go (no x) r = r (last h x)
+
+  pub all-of : (n : ℕ) → ((p : ℕ) → p < n → f p ≡ true) → all n f ≡ true
+  unfolding all
+  all-of zero h = refl
+  all-of (suc n) h = and-intro (f n) (all n f) (h n (omega arith)) (all-of n (λ p k. h p (omega arith)))
+
+  -- a turn of a loop that tests one more
+  pub all-more : (n : ℕ) → all n f ≡ true → f n ≡ true → all (n + 1) f ≡ true
+  unfolding all
+  all-more n e h = rw add-one (and-intro (f n) (all n f) h e)
+
+  pub all-end : (n p : ℕ) → p ≤ n → n ≤ p → all p f ≡ true → all n f ≡ true
+  all-end n p a b e = let same : p ≡ n = omega arith in subst (λ (z : ℕ). all z f ≡ true) same e
+
+  pub all-fails : (n p : ℕ) → p < n → f p ≡ false → all n f ≡ false
+  all-fails n p h e = cases (all n f ≡ false) (all n f) (λ t. clash (f p) (all-at n t p h) e) (λ t. t)
+
+-- ---- count
+
+bit-le : (a b : Bool) → (a ≡ true → b ≡ true) → bit a ≤ bit b
+bit-le true b h = omega (arith, ap bit (h refl))
+bit-le false b h = omega arith
+
+module _ (f g : ℕ → Bool) where
+  pub count-mono : (n : ℕ) → ((p : ℕ) → p < n → f p ≡ true → g p ≡ true) → count n f ≤ count n g
+  unfolding count
+  count-mono zero h = omega arith
+  count-mono (suc n) h = omega (arith, count-mono n (λ p k. h p (omega arith)), bit-le (f n) (g n) (h n (omega arith)))
+
+  pub count-cong : (n : ℕ) → ((p : ℕ) → p < n → f p ≡ g p) → count n f ≡ count n g
+  unfolding count
+  count-cong zero h = refl
+  count-cong (suc n) h = ap₂ (λ (a b : ℕ). a + b) (count-cong n (λ p k. h p (omega arith))) (ap bit (h n (omega arith)))
+
+  -- either of two tests that never both pass
+  pub count-either : (n : ℕ) → ((p : ℕ) → p < n → f p ≡ true → g p ≡ false) → count n (λ p. f p || g p) ≡ count n f + count n g
+  unfolding count
+  count-either zero h = refl
+  count-either (suc n) h = omega (arith, count-either n (λ p k. h p (omega arith)), one (f n) (g n) (h n (omega arith)))
+    where
+      one : (a b : Bool) → (a ≡ true → b ≡ false) → bit (a || b) ≡ bit a + bit b
+      one true b i = ap (λ (x : Bool). 1 + bit x) (sym (i refl))
+      one false b i = omega arith
+
+module _ (f : ℕ → Bool) where
+  pub count-le : (n : ℕ) → count n f ≤ n
+  unfolding count
+  count-le zero = omega arith
+  count-le (suc n) = omega (arith, count-le n, bit-le (f n) true (λ e. refl))
+
+  -- where nothing is counted, nothing passes
+  pub count-none : (n : ℕ) → count n f ≡ 0 → (p : ℕ) → p < n → f p ≡ false
+  unfolding count
+  count-none zero e p h = absurd (not-suc-le-zero h)
+  count-none (suc n) e p h = go (ℕ-discrete p n) (λ (k : p < n). count-none n (omega arith) p k)
+    where
+      go : Dec (p ≡ n) → (p < n → f p ≡ false) → f p ≡ false
+      go (yes x) r =
+          cases (f p ≡ false) (f p) (λ t. absurd (let z : bit (f n) ≡ 1 = ap bit (ap f (sym x) ∙ t) in omega arith)) (λ t. t)
+      go (no x) r = r (last h x)
+
+  -- without one that passes: one fewer
+  pub count-without : (n q : ℕ) → q < n → f q ≡ true → count n f ≡ count n (λ p. f p && not (eqb p q)) + 1
+  unfolding count
+  count-without zero q h e = absurd (not-suc-le-zero h)
+  count-without (suc n) q h e = go (ℕ-discrete n q) (λ (k : q < n). count-without n q k e)
+    where
+      off : (x : Bool) → bit (x && false) ≡ 0
+      off true = refl
+      off false = refl
+
+      on : (x : Bool) → (x && true) ≡ x
+      on true = refl
+      on false = refl
+
+      go : Dec (n ≡ q) → (q < n → count n f ≡ count n (λ p. f p && not (eqb p q)) + 1)
+          → count n f + bit (f n) ≡ count n (λ p. f p && not (eqb p q)) + bit (f n && not (eqb n q)) + 1
+      go (yes x) r =
+          let same : count n f ≡ count n (λ p. f p && not (eqb p q)) =
+          count-cong f (λ p. f p && not (eqb p q)) n (λ p k. sym (ap (λ (b : Bool). f p && not b) (ne-eqb p q (omega arith)) ∙ on (f p))) in
+          let gone : bit (f n && not (eqb n q)) ≡ 0 = ap (λ (b : Bool). bit (f n && not b)) (eq-eqb n q x) ∙ off (f n) in
+          let here : bit (f n) ≡ 1 = ap bit (ap f x ∙ e) in
+          omega arith
+      go (no x) r =
+          let kept : bit (f n && not (eqb n q)) ≡ bit (f n) = ap bit (ap (λ (b : Bool). f n && not b) (ne-eqb n q x) ∙ on (f n)) in
+          omega (arith, r (omega arith))
+
+-- ---- seek
+
+module _ (f : ℕ → Bool) where
+  seek-in : (d i : ℕ) → f i ≡ true → seek (suc d) i f ≡ i
+  unfolding seek
+  seek-in d i e = rw (e, seek)
+
+  seek-out : (d i : ℕ) → f i ≡ false → seek (suc d) i f ≡ seek d (suc i) f
+  unfolding seek
+  seek-out d i e = rw (e, seek)
+
+  -- r is where the search of d numbers from i on ends: it passes if it is one of them, and none before it does
+  pub record Found (d i r : ℕ) : Type 0 where
+    pub low : i ≤ r
+    pub high : r ≤ i + d
+    pub hit : r < i + d → f r ≡ true
+    pub miss : (j : ℕ) → i ≤ j → j < r → f j ≡ false
+
+  pub found : (d i : ℕ) → Found d i (seek d i f)
+  unfolding seek
+  found zero i = record { low = omega arith; high = omega arith; hit = λ h. absurd (omega arith); miss = λ j a b. absurd (omega arith) }
+  found (suc d) i = go (f i) refl (found d (suc i))
+    where
+      go : (b : Bool) → f i ≡ b → Found d (suc i) (seek d (suc i) f) → Found (suc d) i (seek (suc d) i f)
+      go true e r = subst (λ (x : ℕ). Found (suc d) i x) (sym (seek-in d i e))
+          (record { low = omega arith; high = omega arith; hit = λ h. e; miss = λ j a b. absurd (omega arith) })
+      go false e r = subst (λ (x : ℕ). Found (suc d) i x) (sym (seek-out d i e))
+          (record {
+            low = omega (arith, r .low);
+            high = omega (arith, r .high);
+            hit = λ h. r .hit (omega (arith, h));
+            miss = λ j a b. miss′ j a b (ℕ-discrete i j);
+          })
+        where
+          miss′ : (j : ℕ) → i ≤ j → j < seek d (suc i) f → Dec (i ≡ j) → f j ≡ false
+          miss′ j a b (yes x) = ap f (sym x) ∙ e
+          miss′ j a b (no x) = r .miss j (omega (arith, a, x)) b
+
+  -- the first that passes is what is found
+  pub seek-is : (d i j : ℕ) → i ≤ j → j < i + d → f j ≡ true → ((m : ℕ) → i ≤ m → m < j → f m ≡ false) → seek d i f ≡ j
+  seek-is d i j a b t h = go (decLt (seek d i f) j) (decLt j (seek d i f))
+    where
+      r : Found d i (seek d i f)
+      r = found d i
+
+      go : Dec (seek d i f < j) → Dec (j < seek d i f) → seek d i f ≡ j
+      go (yes x) y = clash (f (seek d i f)) (r .hit (omega arith)) (h (seek d i f) (r .low) x)
+      go (no x) (yes y) = clash (f j) t (r .miss j a y)
+      go (no x) (no y) = omega arith
+
+  -- a search of the numbers from i to n - 1 finds none exactly where none passes
+  module _ (d i n : ℕ) (e : i + d ≡ n) where
+    pub seek-none : ltb (seek d i f) n ≡ false → (j : ℕ) → i ≤ j → j < n → f j ≡ false
+    seek-none h j a b = found d i .miss j a (omega (arith, ltb-false (seek d i f) n h))
+
+    pub none-seek : ((j : ℕ) → i ≤ j → j < n → f j ≡ false) → ltb (seek d i f) n ≡ false
+    none-seek h =
+        cases (ltb (seek d i f) n ≡ false) (ltb (seek d i f) n)
+        (λ t. let l : seek d i f < n = ltb-true (seek d i f) n t in
+        clash (f (seek d i f)) (found d i .hit (omega arith)) (h (seek d i f) (found d i .low) l))
+        (λ t. t)

@@ -1,0 +1,23 @@
+-- Tests over a range of numbers: whether all pass, how many pass, which is the first to pass. Assumes nothing.
+use Prim.Native.Nat.{ℕ, zero, suc, _+_}
+use mathlib.Core.Bool.{Bool, true, false, _&&_}
+
+-- 1 where a test passes, else 0
+abbrev pub bit : Bool → ℕ
+bit true = 1
+bit false = 0
+
+-- every p below n passes the test f
+unfoldable pub all : ℕ → (ℕ → Bool) → Bool
+all zero f = true
+all (suc n) f = let r = all n f in f n && r
+
+-- how many p below n pass the test f
+unfoldable pub count : ℕ → (ℕ → Bool) → ℕ
+count zero f = 0
+count (suc n) f = count n f + bit (f n)
+
+-- the first of i, i + 1, .. that passes the test f; i + d if none of these d does
+unfoldable pub seek : ℕ → ℕ → (ℕ → Bool) → ℕ
+seek zero i f = i
+seek (suc d) i f = elim (f i) [ true ↦ i | false ↦ seek d (suc i) f ]

@@ -1,0 +1,43 @@
+// Sets of at most 64 vertices as u64 numbers: bit p says whether vertex p is in the set.
+// `&`, `|`, `^` and `& !` are intersection, union, what only one has, and difference; `s & (s - 1)` is s without its lowest vertex.
+ghost use mathlib.Core.Path.{_≡_};
+ghost use Rattle.vertex_set.specs.Sets.{mem, size, lowest, single, below};
+
+// Whether the vertex p is in s.
+pub fn contains(s: u64, p: usize) -> bool
+    ensures { λ r. ⌜ r ≡ mem p s ⌝ }
+{
+    if p < 64 { (s >> p) % 2 == 1 } else { false }
+}
+
+// How many vertices s has.
+pub fn size(s: u64) -> u64
+    ensures { λ r. ⌜ r ≡ size s ⌝ }
+{
+    u64::count_ones(s) as u64
+}
+
+// The lowest vertex of s; 64 where it has none.
+pub fn lowest(s: u64) -> usize
+    ensures { λ r. ⌜ r ≡ lowest s ⌝ }
+{
+    u64::trailing_zeros(s) as usize
+}
+
+// The set of p alone; empty for p over 63.
+pub fn single(p: usize) -> u64
+    ensures { λ r. ⌜ r ≡ single p ⌝ }
+{
+    if p < 64 { 1 << p } else { 0 }
+}
+
+// The n lowest vertices; all 64 for n over 64.
+pub fn below(n: u64) -> u64
+    ensures { λ r. ⌜ r ≡ below n ⌝ }
+{
+    if n < 64 {
+        (1 << n) - 1
+    } else {
+        0xffff_ffff_ffff_ffff
+    }
+}
