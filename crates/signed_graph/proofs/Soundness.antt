@@ -14,9 +14,9 @@ use Rattle.vertex_set.specs.Ranges.{all}
 use Rattle.vertex_set.specs.Sets.{mem}
 use Rattle.vertex_set.proofs.Booleans.{clash, cases, and-intro, and-left, and-right, and-other, or-left, or-right, beq-eq, eq-beq}
 use Rattle.vertex_set.proofs.Ranges.{all-at, all-of}
-use Rattle.vertex_set.proofs.Membership.{mem-past, mem-none, mem-lt, mem-ext}
+use Rattle.vertex_set.proofs.Membership.{mem-past, mem-none, mem-lt, mem-ext, mem-below}
 use Rattle.signed_graph.specs.declared.SignedGraph.{SignedGraph}
-use Rattle.signed_graph.specs.Graphs.{positiveEdge, negativeEdge}
+use Rattle.signed_graph.specs.Graphs.{positiveEdge, negativeEdge, vertices}
 use Rattle.signed_graph.specs.Soundness.{eachTable, whole, loopless, symmetric, confined, unambiguous, sound}
 
 -- ---- a table
@@ -216,3 +216,9 @@ module _ (g : SignedGraph) where
           all-of (λ q. not (positiveEdge g p q && negativeEdge g p q)) 64 (λ q _.
           ap not (cases ((positiveEdge g p q && negativeEdge g p q) ≡ false) (positiveEdge g p q)
           (λ m. ap₂ (λ (x y : Bool). x && y) m (h .apart p q m)) (λ m. ap (λ (x : Bool). x && negativeEdge g p q) m))))
+
+-- ---- its vertices are those below n
+
+pub mem-vertices : (g : SignedGraph) → g .n ≤ 64 → (p : ℕ) → mem p (vertices g) ≡ ltb p (g .n)
+unfolding vertices
+mem-vertices g small p = mem-below (g .n) p small

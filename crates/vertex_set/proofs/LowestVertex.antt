@@ -69,6 +69,9 @@ module _ (s : ℕ) where
   pub lowest-least : (j : ℕ) → j < lowest s → mem j s ≡ false
   lowest-least j h = search .miss j (omega arith) h
 
+  pub lowest-hit : lowest s < 64 → mem (lowest s) s ≡ true
+  lowest-hit h = search .hit (omega arith)
+
   pub lowest-le : (p : ℕ) → mem p s ≡ true → lowest s ≤ p
   lowest-le p m = go (decLe (lowest s) p)
     where
@@ -90,7 +93,7 @@ module _ (s : ℕ) where
           absurd (omega arith)
 
   pub lowest-in : 0 < s → s < 2 ^ 64 → mem (lowest s) s ≡ true
-  lowest-in p h = search .hit (omega (arith, lowest-lt p h))
+  lowest-in p h = lowest-hit (lowest-lt p h)
 
 -- ---- a set without its lowest member, as `s & (s - 1)` makes it
 

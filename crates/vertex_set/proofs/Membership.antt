@@ -1,6 +1,5 @@
 -- Membership: what the operators on 64-bit numbers do to it; sets that have the same members are equal. Assumes nothing.
 use mathlib.Core.Path.{_≡_, refl, sym, ap, ap₂, _∙_, subst}
-use mathlib.Core.Logic.{_≢_}
 use mathlib.Core.Bool.{Bool, true, false, not, _&&_, _||_, Bool·beq, false≢true, or-false, or-comm}
 use Prim.Native.Nat.{ℕ, zero, suc, _+_, _-_, _*_, _/_, _%_, _^_, _≤_, _<_, min, max, suc-le-suc}
 use native.Mathlib.Nat.{add-comm, zero-mul, one-mul, div-one, mod-lt, zero-lt-suc, div-eq-of-lt, mul-div-cancel, mul-mod-left, pow-suc, two-pow-succ, le-of-suc-le-suc, not-suc-le-zero, lt-of-lt-of-le, lt-of-le-of-lt, mod-eq-of-lt}
@@ -99,6 +98,15 @@ mem-xor =
     (digits2 (λ (x y : ℕ). eqb (differ x y) 1 ≡ not (Bool·beq (eqb x 1) (eqb y 1))) refl refl refl refl)
     (λ a b. xor-shr a b 1)
 
+pub union-left : (p a b : ℕ) → mem p a ≡ true → mem p (bitOr a b) ≡ true
+union-left p a b m = mem-or p a b ∙ or-left (mem p a) (mem p b) m
+
+pub union-right : (p a b : ℕ) → mem p b ≡ true → mem p (bitOr a b) ≡ true
+union-right p a b m = mem-or p a b ∙ or-right (mem p a) (mem p b) m
+
+pub union-cases : (A : Type 0) (p a b : ℕ) → mem p (bitOr a b) ≡ true → (mem p a ≡ true → A) → (mem p b ≡ true → A) → A
+union-cases A p a b m = or-cases A (mem p a) (mem p b) (sym (mem-or p a b) ∙ m)
+
 -- ---- complement among k vertices, and difference
 
 pub mem-not : (k p b : ℕ) → p < k → b < 2 ^ k → mem p ((2 ^ k - 1) - b) ≡ not (mem p b)
@@ -160,14 +168,13 @@ pub mem-insert : (q p s : ℕ) → mem q (insert p s) ≡ (mem q s || eqb q p)
 mem-insert q p s = mem-or q s (2 ^ p) ∙ ap (λ (b : Bool). mem q s || b) (mem-pow p q)
 
 pub insert-in : (p s : ℕ) → mem p (insert p s) ≡ true
-insert-in p s = mem-insert p p s ∙ or-right (mem p s) (eqb p p) (eq-eqb p p refl)
+insert-in p s = union-right p s (2 ^ p) (mem-pow p p ∙ eq-eqb p p refl)
 
 pub insert-keeps : (q p s : ℕ) → mem q s ≡ true → mem q (insert p s) ≡ true
-insert-keeps q p s m = mem-insert q p s ∙ or-left (mem q s) (eqb q p) m
+insert-keeps q p s m = union-left q s (2 ^ p) m
 
-pub insert-other : (q p s : ℕ) → mem q (insert p s) ≡ true → q ≢ p → mem q s ≡ true
-insert-other q p s m d =
-    or-cases (mem q s ≡ true) (mem q s) (eqb q p) (sym (mem-insert q p s) ∙ m) (λ x. x) (λ x. absurd (d (eqb-true q p x)))
+pub insert-cases : (A : Type 0) (q p s : ℕ) → mem q (insert p s) ≡ true → (mem q s ≡ true → A) → (q ≡ p → A) → A
+insert-cases A q p s m f h = union-cases A q s (2 ^ p) m f (λ i. h (eqb-true q p (sym (mem-pow p q) ∙ i)))
 
 -- ---- a set given by a test
 
@@ -212,6 +219,16 @@ module _ (f : ℕ → Bool) where
 pub collect-is : (n s : ℕ) (f : ℕ → Bool) → s < 2 ^ n → ((p : ℕ) → p < n → mem p s ≡ f p) → s ≡ collect n f
 collect-is n s f h e = mem-ext n s (collect n f) h (collect-lt f n) (λ p l. e p l ∙ sym (collect-at f n p l))
 
+-- the part of s that passes a test
+pub mem-part : (s : ℕ) (f : ℕ → Bool) → s < 2 ^ 64 → (p : ℕ) → mem p (collect 64 (λ p. mem p s && f p)) ≡ (mem p s && f p)
+mem-part s f h p = mem-collect (λ p. mem p s && f p) 64 p ∙ go (decLt p 64)
+  where
+    go : Dec (p < 64) → (ltb p 64 && (mem p s && f p)) ≡ (mem p s && f p)
+    go (yes x) = ap (λ (b : Bool). b && (mem p s && f p)) (lt-ltb p 64 x)
+    go (no x) =
+        ap (λ (b : Bool). b && (mem p s && f p)) (le-ltb p 64 (omega arith))
+        ∙ ap (λ (b : Bool). b && f p) (sym (mem-past 64 p s h (omega arith)))
+
 -- ---- `single` and `below` as powers of two
 
 pub single-pow : (p : ℕ) → p < 64 → single p ≡ 2 ^ p
@@ -245,6 +262,10 @@ unfolding below
 below-pow n h =
     sym (collect-is 64 (2 ^ n - 1) (λ q. ltb q n) (omega (arith, pow-mono h, pow-pos n)) (λ q l. ones-mem n q))
 
+pub below-lt : (n : ℕ) → below n < 2 ^ 64
+unfolding below
+below-lt n = collect-lt (λ q. ltb q n) 64
+
 pub below-all : (n : ℕ) → 64 ≤ n → below n ≡ 2 ^ 64 - 1
 unfolding below
 below-all n h =
@@ -264,3 +285,13 @@ lt-of-members n s small = subst (λ (x : ℕ). x < 2 ^ n) e (mask-lt s n)
         mem-ext s (bitAnd s (2 ^ n - 1)) s (lt-of-le-of-lt (and-le-l s (2 ^ n - 1)) (lt-pow s)) (lt-pow s) (λ p _.
         mem-and p s (2 ^ n - 1) ∙ ap (λ (b : Bool). mem p s && b) (ones-mem n p)
         ∙ iff (mem p s && ltb p n) (mem p s) (and-left (mem p s) (ltb p n)) (λ m. and-intro (mem p s) (ltb p n) m (lt-ltb p n (small p m))))
+
+-- ---- subsets, as `a & b == a` tests them
+
+pub subset-and : (a b : ℕ) → Subset a b → bitAnd a b ≡ a
+subset-and a b s =
+    mem-ext a (bitAnd a b) a (lt-of-le-of-lt (and-le-l a b) (lt-pow a)) (lt-pow a) (λ p l.
+    mem-and p a b ∙ iff (mem p a && mem p b) (mem p a) (and-left (mem p a) (mem p b)) (λ m. and-intro (mem p a) (mem p b) m (s p m)))
+
+pub and-subset : (a b : ℕ) → bitAnd a b ≡ a → Subset a b
+and-subset a b e p m = and-right (mem p a) (mem p b) (sym (mem-and p a b) ∙ ap (mem p) e ∙ m)

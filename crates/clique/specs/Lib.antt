@@ -1,0 +1,7 @@
+pub mod Lists
+pub mod Balance
+pub mod Groups
+pub mod Order
+pub mod Verdicts
+pub mod Stages
+pub mod Samples
