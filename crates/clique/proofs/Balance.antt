@@ -1,12 +1,12 @@
 -- Balanced sets: what is within one is balanced, the test says what the words say, and there is one pair of sides. Assumes nothing.
-use Prim.Native.Nat.{ℕ, _^_, _≤_, _<_}
+use Prim.Native.Nat.{ℕ, _^_, _<_}
 use native.Mathlib.Nat.{lt-of-lt-of-le}
 use native.Mathlib.Omega.{arith}
 use native.Mathlib.Decide.{decLt, ℕ-discrete}
 use mathlib.Core.Path.{_≡_, refl, sym, ap, ap₂, _∙_}
-use mathlib.Core.Logic.{_≢_}
+use mathlib.Core.Logic.{_≢_, _⊎_, inl, inr}
 use mathlib.Core.Bool.{Bool, true, false, not, _&&_, _||_, Bool·beq, cond, Bool·not-not, and-true, and-false, or-comm}
-use lib.Dec.{ltb, eqb}
+use lib.Dec.{eqb}
 use lib.Bits.{bitAnd}
 use lib.Pow.{pow-mono}
 use borrow.Author.Tests.{ltb-true, eqb-true, eq-eqb, ne-eqb, not-true}
@@ -14,7 +14,8 @@ use Rattle.vertex_set.specs.Ranges.{all}
 use Rattle.vertex_set.specs.Sets.{mem, Subset, collect, lowest}
 use Rattle.vertex_set.proofs.Booleans.{clash, cases, and-intro, and-left, and-right, fails-left, fails-right, or-left, or-right, or-cases, neither-left, neither-right, imp-intro, imp-elim, beq-eq, eq-beq, beq-ne, ne-beq}
 use Rattle.vertex_set.proofs.Ranges.{all-at, all-of}
-use Rattle.vertex_set.proofs.Membership.{mem-lt, mem-pos, mem-and, mem-part, mem-ext, collect-lt, lt-of-members, subset-and, and-subset}
+use Rattle.vertex_set.proofs.Membership.{mem-lt, mem-pos, mem-and, mem-ext, lt-of-members, subset-and, and-subset}
+use Rattle.vertex_set.proofs.Collections.{mem-part, collect-lt}
 use Rattle.vertex_set.proofs.LowestVertex.{lowest-in}
 use Rattle.signed_graph.specs.declared.SignedGraph.{SignedGraph}
 use Rattle.signed_graph.specs.Graphs.{positiveEdge, negativeEdge, edge, vertices}
@@ -38,7 +39,8 @@ module _ (g : SignedGraph) (side : ℕ → Bool) (p q : ℕ) where
   pub agrees-across : agrees g side p q ≡ true → side p ≡ not (side q) → negativeEdge g p q ≡ true
   agrees-across e h = sym (ap (λ (b : Bool). cond b (positiveEdge g p q) (negativeEdge g p q)) (ne-beq (side p) (side q) h)) ∙ e
 
-  pub agrees-of : (side p ≡ side q → positiveEdge g p q ≡ true) → (side p ≡ not (side q) → negativeEdge g p q ≡ true) → agrees g side p q ≡ true
+  pub agrees-of : (side p ≡ side q → positiveEdge g p q ≡ true) → (side p ≡ not (side q) → negativeEdge g p q ≡ true)
+      → agrees g side p q ≡ true
   agrees-of i a =
       cases (agrees g side p q ≡ true) (Bool·beq (side p) (side q))
       (λ e. ap (λ (b : Bool). cond b (positiveEdge g p q) (negativeEdge g p q)) e ∙ i (beq-eq (side p) (side q) e))
@@ -291,7 +293,8 @@ module _ (g : SignedGraph) (so : Sound g) where
   words-balanced s b =
       passed s (record {
         usable = b .usable;
-        agreeing = agrees-lowest (λ p. mem p (b .one-side)) s (usable-64 s (b .usable)) (split-agrees s (b .one-side) (b .other-side) (b .split));
+        agreeing = agrees-lowest (λ p. mem p (b .one-side)) s (usable-64 s (b .usable))
+            (split-agrees s (b .one-side) (b .other-side) (b .split));
       })
 
   -- ---- there is one left side and one right side
@@ -313,7 +316,8 @@ module _ (g : SignedGraph) (so : Sound g) where
     pub is-left : l ≡ left g s
     unfolding left
     is-left =
-        mem-ext 64 l (collect 64 (λ p. mem p s && sameSide g (lowest s) p)) (part-lt l (λ p m. in-s p m)) (collect-lt (λ p. mem p s && sameSide g (lowest s) p) 64)
+        mem-ext 64 l (collect 64 (λ p. mem p s && sameSide g (lowest s) p)) (part-lt l (λ p m. in-s p m))
+        (collect-lt (λ p. mem p s && sameSide g (lowest s) p) 64)
         (λ p _. sym (mem-part s (sameSide g (lowest s)) s64 p ∙ cases ((mem p s && sameSide g (lowest s) p) ≡ mem p l) (mem p s)
         (λ m. ap₂ (λ (x y : Bool). x && y) m (told p m))
         (λ m. ap (λ (x : Bool). x && sameSide g (lowest s) p) m ∙ sym (neither-left (mem p l) (mem p r) (sym (h .split .either p) ∙ m)))))
@@ -324,10 +328,13 @@ module _ (g : SignedGraph) (so : Sound g) where
     pub is-right : r ≡ right g s
     unfolding right
     is-right =
-        mem-ext 64 r (collect 64 (λ p. mem p s && not (sameSide g (lowest s) p))) (part-lt r (λ p m. in-s p m)) (collect-lt (λ p. mem p s && not (sameSide g (lowest s) p)) 64)
-        (λ p _. sym (mem-part s (λ p. not (sameSide g (lowest s) p)) s64 p ∙ cases ((mem p s && not (sameSide g (lowest s) p)) ≡ mem p r) (mem p s)
+        mem-ext 64 r (collect 64 (λ p. mem p s && not (sameSide g (lowest s) p))) (part-lt r (λ p m. in-s p m))
+        (collect-lt (λ p. mem p s && not (sameSide g (lowest s) p)) 64)
+        (λ p _. sym (mem-part s (λ p. not (sameSide g (lowest s) p)) s64 p
+        ∙ cases ((mem p s && not (sameSide g (lowest s) p)) ≡ mem p r) (mem p s)
         (λ m. ap₂ (λ (x y : Bool). x && not y) m (told p m) ∙ other p m)
-        (λ m. ap (λ (x : Bool). x && not (sameSide g (lowest s) p)) m ∙ sym (neither-right (mem p l) (mem p r) (sym (h .split .either p) ∙ m)))))
+        (λ m. ap (λ (x : Bool). x && not (sameSide g (lowest s) p)) m
+        ∙ sym (neither-right (mem p l) (mem p r) (sym (h .split .either p) ∙ m)))))
       where
         in-s : (p : ℕ) → mem p r ≡ true → mem p s ≡ true
         in-s p m = h .split .either p ∙ or-right (mem p l) (mem p r) m
@@ -337,3 +344,14 @@ module _ (g : SignedGraph) (so : Sound g) where
             cases (not (mem p l) ≡ mem p r) (mem p l)
             (λ x. ap not x ∙ sym (h .split .one p x))
             (λ x. ap not x ∙ sym (other-side (h .split) p m x))
+
+  -- a set that is not empty splits in one way: in left and right, or with their names exchanged
+  pub one-split : (s l r : ℕ) → 0 < s → s < 2 ^ 64 → Split g s l r → ((l ≡ left g s) × (r ≡ right g s)) ⊎ ((l ≡ right g s) × (r ≡ left g s))
+  one-split s l r pos s64 sp =
+      cases (((l ≡ left g s) × (r ≡ right g s)) ⊎ ((l ≡ right g s) × (r ≡ left g s))) (mem (lowest s) l)
+      (λ m.
+      let h : Sides g s l r = record { split = sp; lowest-left = λ _. m } in
+      inl (is-left s l r s64 h, is-right s l r s64 h))
+      (λ m.
+      let h : Sides g s r l = record { split = split-swap sp; lowest-left = λ _. other-side sp (lowest s) (lowest-in s pos s64) m } in
+      inr (is-right s r l s64 h, is-left s r l s64 h))

@@ -1,12 +1,13 @@
--- Document 01's cases T1 to T5, T7 (their groups) and T8 to T11, which compute. A set is written as a number: {0, 1, 4} is 19. Assumes nothing.
+-- Document 01's cases T1 to T5 and T7 (their groups) and T8 to T11 (the verdicts), which compute. Assumes nothing.
 use mathlib.Core.Path.{_≡_, refl}
 use mathlib.Core.Bool.{true}
-use mathlib.Core.List.{[], _∷_}
+use mathlib.Core.List.{List, [], _∷_}
+use Prim.Native.Nat.{ℕ, _+_, _^_}
 use Rattle.vertex_set.specs.Ranges as R
 use Rattle.vertex_set.specs.Sets as S
 use Rattle.signed_graph.specs.Graphs.{edgeless, vertices}
 use Rattle.signed_graph.specs.Soundness.{sound, whole, loopless, symmetric, confined, unambiguous}
-use Rattle.clique.specs.declared.Verdict.the-variants.{MissingEdge, Unbalanced, TooSmall, Extensible, Group}
+use Rattle.clique.specs.declared.Verdict.the-variants.{MissingEdge, Unbalanced, TooSmall, Extensible}
 use Rattle.clique.specs.Lists.{select}
 use Rattle.clique.specs.Balance.{balanced, allAgree, left, right}
 use Rattle.clique.specs.Groups.{floor, extension, isGroup}
@@ -14,26 +15,52 @@ use Rattle.clique.specs.Order.{choices, subsets, groups}
 use Rattle.clique.specs.Verdicts.{verdict, firstOutside, missingFirst, missingSecond, oddFirst, oddSecond, oddThird}
 use Rattle.clique.specs.Samples.{triangle, chain, sampleA}
 
-triangle-sound : sound triangle ≡ true
-unfolding sound whole loopless symmetric confined unambiguous R.all S.mem
-triangle-sound = refl
+-- the set of the vertices of a list
+abbrev pub set : List ℕ → ℕ
+set [] = 0
+set (p ∷ l) = 2 ^ p + set l
 
-chain-sound : sound chain ≡ true
-unfolding sound whole loopless symmetric confined unambiguous R.all S.mem
-chain-sound = refl
+-- the graphs of the cases are sound
+pub record Sound : Type 0 where
+  pub sound-triangle : sound triangle ≡ true
+  pub sound-chain : sound chain ≡ true
+  pub sound-A : sound sampleA ≡ true
 
-sampleA-sound : sound sampleA ≡ true
+pub samples-sound : Sound
 unfolding sound whole loopless symmetric confined unambiguous R.all S.mem
-sampleA-sound = refl
+samples-sound = record { sound-triangle = refl; sound-chain = refl; sound-A = refl }
 
-T1 : groups (edgeless 0) 0 ≡ []
+pub record Groups : Type 0 where
+  pub T1 : groups (edgeless 0) 0 ≡ []
+  pub T2-at-0 : groups (edgeless 1) 0 ≡ set (0 ∷ []) ∷ []
+  pub T2-at-1 : groups (edgeless 1) 1 ≡ []
+  pub T3 : groups triangle 1 ≡ set (0 ∷ 1 ∷ []) ∷ set (0 ∷ 2 ∷ []) ∷ set (1 ∷ 2 ∷ []) ∷ []
+  pub T4 : groups chain 0 ≡ set (0 ∷ 1 ∷ []) ∷ set (1 ∷ 2 ∷ []) ∷ []
+  pub T5 : groups sampleA 1 ≡ set (0 ∷ 1 ∷ 2 ∷ 3 ∷ []) ∷ set (0 ∷ 2 ∷ 4 ∷ []) ∷ []
+  pub T7 : groups sampleA 3 ≡ []
+
+pub cases-groups : Groups
 unfolding groups subsets choices select isGroup extension floor balanced allAgree left right vertices edgeless R.all R.count R.seek S.mem S.collect S.size S.lowest S.below
-T1 = refl
+cases-groups = record { T1 = refl; T2-at-0 = refl; T2-at-1 = refl; T3 = refl; T4 = refl; T5 = refl; T7 = refl }
 
-T5 : groups sampleA 1 ≡ 15 ∷ 21 ∷ []
-unfolding groups subsets choices select isGroup extension floor balanced allAgree left right vertices edgeless R.all R.count R.seek S.mem S.collect S.size S.lowest S.below
-T5 = refl
+-- the sides that T3 to T5 print
+pub record Sides : Type 0 where
+  pub T3-left : left triangle (set (1 ∷ 2 ∷ [])) ≡ set (1 ∷ [])
+  pub T3-right : right triangle (set (1 ∷ 2 ∷ [])) ≡ set (2 ∷ [])
+  pub T4-right : right chain (set (0 ∷ 1 ∷ [])) ≡ 0
+  pub T5-left : left sampleA (set (0 ∷ 1 ∷ 2 ∷ 3 ∷ [])) ≡ set (0 ∷ 1 ∷ [])
+  pub T5-right : right sampleA (set (0 ∷ 1 ∷ 2 ∷ 3 ∷ [])) ≡ set (2 ∷ 3 ∷ [])
 
-T8 : verdict sampleA 1 19 ≡ MissingEdge 1 4
+pub cases-sides : Sides
+unfolding left right R.seek S.mem S.collect S.lowest
+cases-sides = record { T3-left = refl; T3-right = refl; T4-right = refl; T5-left = refl; T5-right = refl }
+
+pub record Verdicts : Type 0 where
+  pub T8 : verdict sampleA 1 (set (0 ∷ 1 ∷ 4 ∷ [])) ≡ MissingEdge 1 4
+  pub T9 : verdict sampleA 1 (set (0 ∷ 2 ∷ [])) ≡ Extensible 1
+  pub T10 : verdict triangle 1 (set (0 ∷ 1 ∷ 2 ∷ [])) ≡ Unbalanced 0 1 2
+  pub T11 : verdict sampleA 2 (set (0 ∷ 2 ∷ 4 ∷ [])) ≡ TooSmall 2 1
+
+pub cases-verdicts : Verdicts
 unfolding verdict firstOutside missingFirst missingSecond oddFirst oddSecond oddThird extension floor balanced allAgree left right vertices R.all R.count R.seek S.mem S.collect S.size S.lowest S.below
-T8 = refl
+cases-verdicts = record { T8 = refl; T9 = refl; T10 = refl; T11 = refl }

@@ -12,7 +12,8 @@ use Rattle.vertex_set.specs.Ranges.{all}
 use Rattle.vertex_set.specs.Sets.{mem, lowest}
 use Rattle.vertex_set.proofs.Booleans.{clash, iff, and-intro, and-left, and-right, imp-intro, imp-elim}
 use Rattle.vertex_set.proofs.Ranges.{all-at, all-of}
-use Rattle.vertex_set.proofs.Membership.{mem-and, mem-none, mem-lt, mem-ext, mem-part, collect-lt}
+use Rattle.vertex_set.proofs.Membership.{mem-and, mem-none, mem-lt, mem-ext}
+use Rattle.vertex_set.proofs.Collections.{mem-part, collect-lt}
 use Rattle.vertex_set.proofs.LowestVertex.{lowest-in, rest, mem-rest}
 use Rattle.clique.specs.Stages.{commonPart}
 use Rattle.clique.proofs.Sweeps.{Sweep, sweep-begin, sweep-step, sweep-here, gone}
@@ -35,9 +36,11 @@ module _ (rows : List ℕ) (s start : ℕ) (h : start < 2 ^ 64) where
   unfolding commonPart
   common-row q m p l i =
       imp-elim (mem p s) (mem q (getD rows p 0))
-      (all-at (λ p. not (mem p s) || mem q (getD rows p 0)) 64 (and-right (mem q start) (every q) (sym (mem-part start every h q) ∙ m)) p l) i
+      (all-at (λ p. not (mem p s) || mem q (getD rows p 0)) 64
+      (and-right (mem q start) (every q) (sym (mem-part start every h q) ∙ m)) p l) i
 
-  pub common-of : (q : ℕ) → mem q start ≡ true → ((p : ℕ) → mem p s ≡ true → mem q (getD rows p 0) ≡ true) → mem q (commonPart rows s start) ≡ true
+  pub common-of : (q : ℕ) → mem q start ≡ true → ((p : ℕ) → mem p s ≡ true → mem q (getD rows p 0) ≡ true)
+      → mem q (commonPart rows s start) ≡ true
   unfolding commonPart
   common-of q m f =
       mem-part start every h q
@@ -72,7 +75,8 @@ joined-step rows {s} {start} {left} {part} pos d =
       fits = lt-of-le-of-lt (and-le-l part row) (d .fits);
       first = λ q m. d .first q (had q m);
       each = λ q m r i o.
-          gone (d .sweep) pos r o (λ x. ap (λ (z : ℕ). mem q (getD rows z 0)) x ∙ and-right (mem q part) (mem q row) (sym (mem-and q part row) ∙ m))
+          gone (d .sweep) pos r o (λ x. ap (λ (z : ℕ). mem q (getD rows z 0)) x ∙ and-right (mem q part) (mem q row)
+          (sym (mem-and q part row) ∙ m))
           (λ x. d .each q (had q m) r i x);
       every = λ q m f.
           mem-and q part row
@@ -92,7 +96,8 @@ joined-step rows {s} {start} {left} {part} pos d =
     off : (mem (lowest left) left && not (eqb (lowest left) (lowest left))) ≡ false
     off = ap₂ (λ (x y : Bool). x && not y) (lowest-in left pos (d .sweep .fits)) (eq-eqb (lowest left) (lowest left) refl)
 
-pub joined-end : (rows : List ℕ) (s start left part : ℕ) → s < 2 ^ 64 → start < 2 ^ 64 → left ≡ 0 → Joined rows s start left part → part ≡ commonPart rows s start
+pub joined-end : (rows : List ℕ) (s start left part : ℕ) → s < 2 ^ 64 → start < 2 ^ 64 → left ≡ 0 → Joined rows s start left part
+    → part ≡ commonPart rows s start
 joined-end rows s start left part h k z d =
     mem-ext 64 part (commonPart rows s start) (d .fits) (common-lt rows s start) (λ q _.
     iff (mem q part) (mem q (commonPart rows s start))

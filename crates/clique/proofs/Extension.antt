@@ -1,23 +1,24 @@
 -- Which vertices extend a balanced set: those that can join one of its sides. Assumes nothing.
-use Prim.Native.Nat.{ℕ, _-_, _^_, _≤_, _<_}
+use Prim.Native.Nat.{ℕ, _-_, _^_, _<_}
 use native.Mathlib.Omega.{arith}
-use mathlib.Core.Path.{_≡_, refl, sym, ap, ap₂, _∙_, subst}
+use mathlib.Core.Path.{_≡_, sym, ap, ap₂, _∙_, subst}
 use mathlib.Core.Logic.{_≢_, _⊎_, inl, inr, ⊎-elim}
 use mathlib.Core.Bool.{Bool, true, false, not, _&&_, _||_, or-assoc, or-comm}
 use lib.Dec.{ltb, eqb}
 use lib.Bits.{bitAnd, bitOr, or-lt, and-le-l}
 use native.Mathlib.Nat.{lt-of-le-of-lt}
 use borrow.Author.Tests.{ltb-true, lt-ltb, not-true}
-use Rattle.vertex_set.specs.Sets.{mem, Subset, insert, lowest, below}
+use Rattle.vertex_set.specs.Sets.{mem, insert, lowest, below}
 use Rattle.vertex_set.proofs.Booleans.{clash, cases, iff, and-intro, and-left, and-right, or-left, or-right, neither-right}
 use Rattle.vertex_set.proofs.Ranges.{none-seek}
-use Rattle.vertex_set.proofs.Membership.{mem-and, mem-none, mem-lt, mem-minus, below-lt, union-left, union-right, union-cases, mem-insert, insert-in, insert-keeps, insert-cases}
+use Rattle.vertex_set.proofs.Membership.{mem-and, mem-none, mem-lt, mem-minus, union-left, union-right, union-cases}
+use Rattle.vertex_set.proofs.Collections.{below-lt, mem-insert, insert-in, insert-keeps, insert-cases}
 use Rattle.vertex_set.proofs.LowestVertex.{lowest-in}
 use Rattle.signed_graph.specs.declared.SignedGraph.{SignedGraph}
 use Rattle.signed_graph.specs.Graphs.{positiveEdge, negativeEdge, vertices}
 use Rattle.signed_graph.proofs.Soundness.{Sound, to-sound, mem-vertices}
 use Rattle.clique.specs.declared.Verdict.the-variants as Is
-use Rattle.clique.specs.Balance.{Split, Balanced, Sides, balanced, left, right}
+use Rattle.clique.specs.Balance.{Split, Balanced, Sides, balanced, left}
 use Rattle.clique.specs.Groups.{extension}
 use Rattle.clique.specs.Stages.{commonPart, joiningPart, fromExtension, Halved}
 use Rattle.clique.proofs.Balance.{left-lt, right-lt, usable-64, other-side, split-swap, split-part, split-balanced, balanced-words, words-balanced, balanced-sides, is-left, is-right}
@@ -39,7 +40,8 @@ module _ (g : SignedGraph) (so : Sound g) (s p : ℕ) (out : mem p s ≡ false) 
         either = λ q.
             mem-insert q p s ∙ ap (λ (b : Bool). b || eqb q p) (sp .either q) ∙ move (mem q l) (mem q r) (eqb q p)
             ∙ ap (λ (b : Bool). b || mem q r) (sym (mem-insert q p l));
-        one = λ q m. on (mem q r ≡ false) q m (sp .one q) (λ e. ap (λ (z : ℕ). mem z r) e ∙ neither-right (mem p l) (mem p r) (sym (sp .either p) ∙ out));
+        one = λ q m. on (mem q r ≡ false) q m (sp .one q)
+            (λ e. ap (λ (z : ℕ). mem z r) e ∙ neither-right (mem p l) (mem p r) (sym (sp .either p) ∙ out));
         inside-l = λ x y d mx my.
             on (positiveEdge g x y ≡ true) x mx
             (λ a. on (positiveEdge g x y ≡ true) y my (sp .inside-l x y d a) (λ f. ap (positiveEdge g x) f ∙ j .inside x a))

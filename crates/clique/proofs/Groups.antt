@@ -1,18 +1,18 @@
 -- Groups: the test by single vertices says what the words say, and the list holds exactly the groups, strictly sorted. Assumes nothing.
-use Prim.Native.Nat.{ℕ, _≤_, _<_}
+use Prim.Native.Nat.{ℕ, _<_}
 use native.Mathlib.Omega.{arith}
 use native.Mathlib.Decide.{decLt}
-use mathlib.Core.Path.{_≡_, refl, sym, ap, ap₂, _∙_, subst}
+use mathlib.Core.Path.{_≡_, sym, ap, ap₂, _∙_}
 use mathlib.Core.Logic.{_↔_}
-use mathlib.Core.Bool.{Bool, true, false, not, _&&_, Bool·not-not}
+use mathlib.Core.Bool.{Bool, true, false, not, _&&_}
 use mathlib.Core.List.{List·Memᴰ}
 use lib.Dec.{ltb, eqb}
 use borrow.Author.Tests.{ltb-true, lt-ltb, eqb-true, eq-eqb, not-true}
-use Rattle.vertex_set.specs.Ranges.{seek}
 use Rattle.vertex_set.specs.Sets.{mem, Subset, insert, size}
 use Rattle.vertex_set.proofs.Booleans.{clash, cases, and-intro, and-left, and-right}
 use Rattle.vertex_set.proofs.Ranges.{Found, found}
-use Rattle.vertex_set.proofs.Membership.{mem-ext, insert-in, insert-cases, insert-keeps, lt-of-members}
+use Rattle.vertex_set.proofs.Membership.{mem-ext, lt-of-members}
+use Rattle.vertex_set.proofs.Collections.{insert-in, insert-cases, insert-keeps}
 use Rattle.signed_graph.specs.declared.SignedGraph.{SignedGraph}
 use Rattle.signed_graph.proofs.Soundness.{Sound}
 use Rattle.clique.specs.Lists.{Sorted}
@@ -116,7 +116,8 @@ module _ (g : SignedGraph) (so : Sound g) where
         (and-intro (c1 && c2) c3
         (and-intro c1 c2 (lt-ltb 0 s (h .nonempty)) (words-balanced g so s (h .balanced)))
         (ap₂ (λ (l r : ℕ). floor k (size l) (size r))
-        (sym (is-left g so s (h .left-side) (h .right-side) s64 (h .sides))) (sym (is-right g so s (h .left-side) (h .right-side) s64 (h .sides))) ∙ h .enough))
+        (sym (is-left g so s (h .left-side) (h .right-side) s64 (h .sides)))
+        (sym (is-right g so s (h .left-side) (h .right-side) s64 (h .sides))) ∙ h .enough))
         (eq-eqb (extension g s) (g .n) (extends-none s (maximal-single s (h .maximal))))
 
   -- ---- the list of groups

@@ -7,4 +7,4 @@ mod Sweeps
 mod CommonParts
 mod Extension
 mod Stages
-mod Cases
+pub mod Cases

@@ -51,7 +51,8 @@ module _ {A : Type 0} (f : A → Bool) where
 -- ---- sorted
 
 module _ {A : Type 0} (before : A → A → Bool) where
-  pub sorted-append : (a b : List A) → Sorted before a → Sorted before b → All (λ x. All (λ y. before x y ≡ true) b) a → Sorted before (a ++ b)
+  pub sorted-append : (a b : List A) → Sorted before a → Sorted before b → All (λ x. All (λ y. before x y ≡ true) b) a
+      → Sorted before (a ++ b)
   sorted-append [] b h k c = k
   sorted-append (x ∷ a) b h k c = (all-append (λ y. before x y ≡ true) a b (h .0) (c .0), sorted-append a b (h .1) k (c .1))
 

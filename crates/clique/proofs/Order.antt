@@ -6,14 +6,15 @@ use native.Mathlib.Decide.{decLt}
 use mathlib.Core.Path.{_≡_, refl, sym, ap, ap₂, _∙_, subst}
 use mathlib.Core.Logic.{_≢_, _⊎_, inl, inr}
 use mathlib.Core.Bool.{Bool, true, false, not, _&&_, _||_, Bool·beq, Bool·not-not, or-false}
-use mathlib.Core.List.{List, [], _∷_, _++_, List·Memᴰ, List·Memᴰ·head, Memᴰ·append-left, Memᴰ·append-right}
+use mathlib.Core.List.{[], _++_, List·Memᴰ, List·Memᴰ·head, Memᴰ·append-left, Memᴰ·append-right}
 use lib.Dec.{ltb}
 use lib.Bits.{bitXor, or-lt}
 use lib.Pow.{pow-pos}
 use borrow.Author.Tests.{ltb-true, lt-ltb, ne-eqb, not-true, not-false}
 use Rattle.vertex_set.specs.Sets.{mem, insert, lowest}
 use Rattle.vertex_set.proofs.Booleans.{clash, cases, and-intro, and-left, and-right, beq-eq, eq-beq, beq-ne}
-use Rattle.vertex_set.proofs.Membership.{mem-past, mem-xor, mem-ext, mem-insert, insert-in}
+use Rattle.vertex_set.proofs.Membership.{mem-past, mem-xor, mem-ext}
+use Rattle.vertex_set.proofs.Collections.{mem-insert, insert-in}
 use Rattle.vertex_set.proofs.LowestVertex.{lowest-hit, lowest-least, lowest-is}
 use Rattle.clique.specs.Lists.{All, Sorted}
 use Rattle.clique.specs.Order.{difference, precedes, choices, subsets}
@@ -119,7 +120,12 @@ total a b ha hb ne = go (decLt d 64)
     go (yes x) =
         cases ((precedes a b ≡ true) ⊎ (precedes b a ≡ true)) (mem d a)
         (λ m. inl (from-before a b d (record { small = x; same = agree-below a b; held = m; lacked = differ-at a b x ∙ ap not m })))
-        (λ m. inr (from-before b a d (record { small = x; same = λ j l. sym (agree-below a b j l); held = differ-at a b x ∙ ap not m; lacked = m })))
+        (λ m. inr (from-before b a d (record {
+          small = x;
+          same = λ j l. sym (agree-below a b j l);
+          held = differ-at a b x ∙ ap not m;
+          lacked = m;
+        })))
 
 -- ---- the choices that hold s below i
 
@@ -141,7 +147,8 @@ unfolding choices
 choices-agree zero i s = (λ j h. refl, tt)
 choices-agree (suc d) i s =
     all-append (Agree i s) (choices d (suc i) (insert i s)) (choices d (suc i) s)
-    (all-imp (Agree (suc i) (insert i s)) (Agree i s) (λ t k j h. k j (omega arith) ∙ insert-below i s j h) (choices d (suc i) (insert i s)) (choices-agree d (suc i) (insert i s)))
+    (all-imp (Agree (suc i) (insert i s)) (Agree i s) (λ t k j h. k j (omega arith) ∙ insert-below i s j h)
+    (choices d (suc i) (insert i s)) (choices-agree d (suc i) (insert i s)))
     (all-imp (Agree (suc i) s) (Agree i s) (λ t k j h. k j (omega arith)) (choices d (suc i) s) (choices-agree d (suc i) s))
 
 in-before-out : (i s x y : ℕ) → i < 64 → s < 2 ^ i → Agree (suc i) (insert i s) x → Agree (suc i) s y → precedes x y ≡ true
@@ -161,7 +168,8 @@ choices-sorted (suc d) i s h k =
     (choices-sorted d (suc i) (insert i s) (omega arith) (insert-lt i s k))
     (choices-sorted d (suc i) s (omega arith) (skip-lt i s k))
     (all-imp (Agree (suc i) (insert i s)) (λ (x : ℕ). All (λ (y : ℕ). precedes x y ≡ true) (choices d (suc i) s))
-    (λ x ax. all-imp (Agree (suc i) s) (λ (y : ℕ). precedes x y ≡ true) (λ y ay. in-before-out i s x y (omega arith) k ax ay) (choices d (suc i) s) (choices-agree d (suc i) s))
+    (λ x ax. all-imp (Agree (suc i) s) (λ (y : ℕ). precedes x y ≡ true) (λ y ay. in-before-out i s x y (omega arith) k ax ay)
+    (choices d (suc i) s) (choices-agree d (suc i) s))
     (choices d (suc i) (insert i s)) (choices-agree d (suc i) (insert i s)))
 
 choices-all : (d i s x : ℕ) → s < 2 ^ i → x < 2 ^ (i + d) → Agree i s x → List·Memᴰ x (choices d i s)

@@ -4,30 +4,30 @@ use native.Mathlib.Nat.{lt-of-le-of-lt, lt-of-lt-of-le, pos-of-ne-zero}
 use native.Mathlib.Omega.{arith}
 use native.Mathlib.Decide.{decLt, ℕ-discrete}
 use mathlib.Core.Path.{_≡_, refl, sym, ap, ap₂, _∙_, subst}
-use mathlib.Core.Bool.{Bool, true, false, not, _&&_, _||_, Bool·beq, or-comm}
+use mathlib.Core.Bool.{Bool, true, false, not, _&&_, _||_, or-comm}
 use mathlib.Core.List.{List}
 use lib.Dec.{leb, ltb, eqb}
 use lib.ListN.{getD}
-use lib.Bits.{bitAnd, bitOr, bitXor, and-le-l, or-lt, xor-lt}
+use lib.Bits.{bitAnd, bitOr, and-le-l, or-lt}
 use lib.Pow.{pow-mono}
 use borrow.Author.Tests.{lt-ltb, le-ltb, le-leb, lt-leb, ne-eqb}
-use Rattle.vertex_set.specs.Ranges.{seek}
-use Rattle.vertex_set.specs.Sets.{mem, Subset, collect, size, lowest, single, below}
-use Rattle.vertex_set.proofs.Booleans.{clash, cases, iff, and-intro, and-left, and-right, fails-left, fails-right}
+use Rattle.vertex_set.specs.Sets.{mem, size, lowest, single, below}
+use Rattle.vertex_set.proofs.Booleans.{clash, cases, and-intro, fails-left, fails-right}
 use Rattle.vertex_set.proofs.Ranges.{seek-is, none-seek}
-use Rattle.vertex_set.proofs.Membership.{below-lt, mem-lt, mem-none, mem-and, mem-or, mem-xor, mem-minus, mem-pow, mem-part, mem-below, collect-is, collect-lt, single-pow}
-use Rattle.vertex_set.proofs.LowestVertex.{lowest-in, lowest-lt, lowest-le, lowest-least, rest, rest-lt, mem-rest}
+use Rattle.vertex_set.proofs.Membership.{mem-lt, mem-none, mem-and, mem-or, mem-minus}
+use Rattle.vertex_set.proofs.Collections.{below-lt, mem-pow, mem-part, mem-below, collect-is, collect-lt, single-pow}
+use Rattle.vertex_set.proofs.LowestVertex.{lowest-in, lowest-lt, lowest-le, lowest-least, rest, rest-lt}
 use Rattle.signed_graph.specs.declared.SignedGraph.{SignedGraph}
-use Rattle.signed_graph.specs.Graphs.{positiveEdge, negativeEdge, edge, vertices}
+use Rattle.signed_graph.specs.Graphs.{positiveEdge, negativeEdge, edge}
 use Rattle.signed_graph.specs.Soundness.{sound}
-use Rattle.signed_graph.proofs.Soundness.{Table, Sound, to-sound, mem-vertices}
+use Rattle.signed_graph.proofs.Soundness.{Table, Sound, to-sound}
 use Rattle.clique.specs.declared.Verdict.the-variants as Is
-use Rattle.clique.specs.Balance.{sameSide, balanced, left, right}
+use Rattle.clique.specs.Balance.{sameSide, left, right}
 use Rattle.clique.specs.Groups.{floor}
 use Rattle.clique.specs.Verdicts.{verdict, oneOrThree, firstOutside, lacksEdge, missingFirst, missingSecond, oddTriple, oddFirst, oddSecond, oddThird}
 use Rattle.clique.specs.Stages.{fromExtension, fromSides, fromTriples, fromEdges, Known, Complete, Sided, Halved, oddPart}
 use Rattle.clique.proofs.Balance.{usable-lt, usable-64}
-use Rattle.clique.proofs.Verdicts.{applies, passes-by, none-missing, missing-none, none-odd, even-negative, triple-even, even-balanced, none-outside, inside}
+use Rattle.clique.proofs.Verdicts.{applies, passes-by, none-missing, missing-none, none-odd, even-negative, triple-even, even-balanced, inside}
 use Rattle.clique.proofs.Sweeps.{seek-lowest, Run, run-begin, run-step, run-end, first-is, second-is, sweep-here, sweep-begin, rest-above, above-rest}
 
 -- ---- vertices out of range: those of s that are not below n
@@ -45,7 +45,8 @@ module _ (g : SignedGraph) (ok : sound g ≡ true) (s b : ℕ) (s64 : s < 2 ^ 64
   outside-is : (q : ℕ) → mem q outside ≡ (mem q s && leb (g .n) q)
   outside-is q =
       mem-minus 64 q s b s64 (subst (λ (x : ℕ). x < 2 ^ 64) (sym e) (below-lt (g .n)))
-      ∙ ap (λ (t : Bool). mem q s && not t) (ap (mem q) e ∙ mem-below (g .n) q (so .small)) ∙ ap (λ (t : Bool). mem q s && t) (go (decLt q (g .n)))
+      ∙ ap (λ (t : Bool). mem q s && not t) (ap (mem q) e ∙ mem-below (g .n) q (so .small)) ∙ ap (λ (t : Bool). mem q s && t)
+      (go (decLt q (g .n)))
     where
       go : Dec (q < g .n) → not (ltb q (g .n)) ≡ leb (g .n) q
       go (yes x) = ap not (lt-ltb q (g .n) x) ∙ sym (lt-leb (g .n) q x)
@@ -60,9 +61,11 @@ module _ (g : SignedGraph) (ok : sound g ≡ true) (s b : ℕ) (s64 : s < 2 ^ 64
     unfolding verdict firstOutside
     says-out-of-range out =
         let x : firstOutside g s ≡ lowest outside =
-        seek-lowest (λ p. mem p s && leb (g .n) p) 64 0 64 outside refl out outside-lt (λ p m. (omega arith, mem-lt 64 p outside outside-lt m)) (λ p _ _. outside-is p) in
+        seek-lowest (λ p. mem p s && leb (g .n) p) 64 0 64 outside refl out outside-lt
+        (λ p m. (omega arith, mem-lt 64 p outside outside-lt m)) (λ p _ _. outside-is p) in
         passes-by (eqb s 0) _ _ (ne-eqb s 0 some)
-        ∙ applies (ltb (firstOutside g s) 64) _ _ (lt-ltb (firstOutside g s) 64 (subst (λ (z : ℕ). z < 64) (sym x) (lowest-lt outside out outside-lt)))
+        ∙ applies (ltb (firstOutside g s) 64) _ _
+        (lt-ltb (firstOutside g s) 64 (subst (λ (z : ℕ). z < 64) (sym x) (lowest-lt outside out outside-lt)))
         ∙ ap Is.OutOfRange x
 
     pub past-range : bitAnd s ((2 ^ 64 - 1) - b) ≡ 0 → verdict g k s ≡ fromEdges g k s
@@ -93,10 +96,12 @@ module _ {g : SignedGraph} {s : ℕ} (kn : Known g s) where
     lacks-is : (q : ℕ) → mem q w ≡ (mem q (rest left) && lacksEdge g s (lowest left) q)
     lacks-is q =
         is q
-        ∙ cases ((mem q (rest left) && not (edge g (lowest left) q)) ≡ (mem q (rest left) && lacksEdge g s (lowest left) q)) (mem q (rest left))
+        ∙ cases ((mem q (rest left) && not (edge g (lowest left) q)) ≡ (mem q (rest left) && lacksEdge g s (lowest left) q))
+        (mem q (rest left))
         (λ m. ap (λ (b : Bool). mem q (rest left) && (b && not (edge g (lowest left) q)))
         (sym (and-intro (mem (lowest left) s) (mem q s) (sweep-here (u .sweep) pos) (rest-above (u .sweep) pos q m .0))))
-        (λ m. fails-left (mem q (rest left)) (not (edge g (lowest left) q)) m ∙ sym (fails-left (mem q (rest left)) (lacksEdge g s (lowest left) q) m))
+        (λ m. fails-left (mem q (rest left)) (not (edge g (lowest left) q)) m
+        ∙ sym (fails-left (mem q (rest left)) (lacksEdge g s (lowest left) q) m))
 
     missing-step : w ≡ 0 → Run s (g .n) (lacksEdge g s) (rest left)
     missing-step = run-step u pos w lacks-is (λ q _ _. lacks-none (lowest left) q)
@@ -118,10 +123,12 @@ module _ {g : SignedGraph} {s : ℕ} (kn : Known g s) where
       missing-second : missingSecond g s (missingFirst g s) ≡ lowest w
       unfolding missingSecond
       missing-second =
-          ap (missingSecond g s) missing-first ∙ second-is u pos w lacks-is (λ q _ _. lacks-none (lowest left) q) 0 (g .n) all-n in-n missing-out pw hw
+          ap (missingSecond g s) missing-first ∙ second-is u pos w lacks-is (λ q _ _. lacks-none (lowest left) q) 0
+          (g .n) all-n in-n missing-out pw hw
 
       missing-found : ltb (missingFirst g s) (g .n) ≡ true
-      missing-found = lt-ltb (missingFirst g s) (g .n) (subst (λ (z : ℕ). z < g .n) (sym missing-first) (known-lt (lowest left) (sweep-here (u .sweep) pos)))
+      missing-found = lt-ltb (missingFirst g s) (g .n)
+          (subst (λ (z : ℕ). z < g .n) (sym missing-first) (known-lt (lowest left) (sweep-here (u .sweep) pos)))
 
   pub edges-complete : {left : ℕ} → left ≡ 0 → Run s (g .n) (lacksEdge g s) left → Complete g s
   edges-complete z u =
@@ -155,10 +162,12 @@ module _ {g : SignedGraph} {s : ℕ} (kn : Known g s) where
     edges-step = missing-step u pos unjoined unjoined-is
 
     pub says-missing : (k : ℕ) → 0 < bitAnd (rest left) ((2 ^ 64 - 1) - bitOr (getD (g .positive) p 0) (getD (g .negative) p 0))
-        → fromEdges g k s ≡ Is.MissingEdge p (lowest (bitAnd (rest left) ((2 ^ 64 - 1) - bitOr (getD (g .positive) p 0) (getD (g .negative) p 0))))
+        → fromEdges g k s ≡ Is.MissingEdge p
+        (lowest (bitAnd (rest left) ((2 ^ 64 - 1) - bitOr (getD (g .positive) p 0) (getD (g .negative) p 0))))
     says-missing k some =
         applies (ltb (missingFirst g s) (g .n)) _ _ (missing-found u pos unjoined unjoined-is some unjoined-lt)
-        ∙ ap₂ Is.MissingEdge (missing-first u pos unjoined unjoined-is some unjoined-lt ∙ sym e) (missing-second u pos unjoined unjoined-is some unjoined-lt)
+        ∙ ap₂ Is.MissingEdge (missing-first u pos unjoined unjoined-is some unjoined-lt ∙ sym e)
+        (missing-second u pos unjoined unjoined-is some unjoined-lt)
 
 pub past-edges : {g : SignedGraph} {s : ℕ} → Complete g s → (k : ℕ) → fromEdges g k s ≡ fromTriples g k s
 past-edges {g} {s} co k = passes-by (ltb (missingFirst g s) (g .n)) _ _ (co .complete)
@@ -205,7 +214,8 @@ module _ {g : SignedGraph} {s : ℕ} (co : Complete g s) where
   triples-begin = run-begin (rest s) (g .n) (oddTriple g s a) (rest-lt 64 s (known-64 kn))
 
   module _ {left : ℕ} (u : Run (rest s) (g .n) (oddTriple g s (lowest s)) left) (pos : 0 < left) (w : ℕ)
-      (is : (r : ℕ) → mem r w ≡ (mem r (rest left) && oneOrThree (negativeEdge g (lowest s) (lowest left)) (negativeEdge g (lowest s) r) (negativeEdge g (lowest left) r))) where
+      (is : (r : ℕ) → mem r w ≡ (mem r (rest left) && oneOrThree (negativeEdge g (lowest s) (lowest left))
+      (negativeEdge g (lowest s) r) (negativeEdge g (lowest left) r))) where
     q-in : mem (lowest left) s ≡ true
     q-in = top-above (lowest left) (sweep-here (u .sweep) pos) .0
 
@@ -256,7 +266,8 @@ module _ {g : SignedGraph} {s : ℕ} (co : Complete g s) where
       odd-first =
           seek-is (λ p. ltb (oddSecond g s p) (g .n)) (g .n) 0 a (omega arith) (let l : a < g .n = a-lt in omega arith)
           (lt-ltb (oddSecond g s a) (g .n) (subst (λ (z : ℕ). z < g .n) (sym second) (known-lt kn (lowest left) q-in)))
-          (λ m _ y. none-seek (λ q. ltb (oddThird g s m q) (g .n)) (g .n - suc m) (suc m) (g .n) (let l : a < g .n = a-lt in omega arith) (λ q _ k.
+          (λ m _ y. none-seek (λ q. ltb (oddThird g s m q) (g .n)) (g .n - suc m) (suc m) (g .n)
+          (let l : a < g .n = a-lt in omega arith) (λ q _ k.
           none-seek (oddTriple g s m q) (g .n - suc q) (suc q) (g .n) (omega arith) (λ r _ _. odd-out m q r (lowest-least s m y))))
 
       odd-second : oddSecond g s (oddFirst g s) ≡ lowest left
@@ -269,10 +280,12 @@ module _ {g : SignedGraph} {s : ℕ} (co : Complete g s) where
       odd-found = lt-ltb (oddFirst g s) (g .n) (subst (λ (z : ℕ). z < g .n) (sym odd-first) a-lt)
 
   -- what the code takes for w
-  module _ {left : ℕ} (u : Run (rest s) (g .n) (oddTriple g s (lowest s)) left) (pos : 0 < left) (p q w : ℕ) (ep : p ≡ lowest s) (eq : q ≡ lowest left)
+  module _ {left : ℕ} (u : Run (rest s) (g .n) (oddTriple g s (lowest s)) left) (pos : 0 < left) (p q w : ℕ) (ep : p ≡ lowest s)
+      (eq : q ≡ lowest left)
       (e : w ≡ oddPart (rest left) (getD (g .negative) p 0) (getD (g .negative) q 0) q) where
     odds-is : (r : ℕ) → mem r w
-        ≡ (mem r (rest left) && oneOrThree (negativeEdge g (lowest s) (lowest left)) (negativeEdge g (lowest s) r) (negativeEdge g (lowest left) r))
+        ≡ (mem r (rest left) && oneOrThree (negativeEdge g (lowest s) (lowest left)) (negativeEdge g (lowest s) r)
+        (negativeEdge g (lowest left) r))
     odds-is r =
         ap (mem r) e ∙ mem-odd (rest left) (getD (g .negative) p 0) (getD (g .negative) q 0) q (rest-lt 64 left (u .sweep .fits)) r
         ∙ ap₂ (λ (x y : ℕ). mem r (rest left) && oneOrThree (negativeEdge g x y) (negativeEdge g x r) (negativeEdge g y r)) ep eq
@@ -326,7 +339,8 @@ module _ (g : SignedGraph) (s : ℕ) (h : s < 2 ^ 64) where
   unfolding left
   left-is l =
       let row : ℕ = getD (g .positive) a′ 0 in
-      collect-is 64 (bitAnd s (bitOr row (single a′))) (λ p. mem p s && sameSide g a′ p) (lt-of-le-of-lt (and-le-l s (bitOr row (single a′))) h) (λ q _.
+      collect-is 64 (bitAnd s (bitOr row (single a′))) (λ p. mem p s && sameSide g a′ p)
+      (lt-of-le-of-lt (and-le-l s (bitOr row (single a′))) h) (λ q _.
       mem-and q s (bitOr row (single a′))
       ∙ ap (λ (b : Bool). mem q s && b)
       (mem-or q row (single a′) ∙ ap (λ (b : Bool). positiveEdge g a′ q || b) (ap (mem q) (single-pow a′ l) ∙ mem-pow a′ q)
@@ -335,7 +349,8 @@ module _ (g : SignedGraph) (s : ℕ) (h : s < 2 ^ 64) where
   right-is : (l : ℕ) → l ≡ left g s → bitAnd s ((2 ^ 64 - 1) - l) ≡ right g s
   unfolding left right
   right-is l e =
-      collect-is 64 (bitAnd s ((2 ^ 64 - 1) - l)) (λ p. mem p s && not (sameSide g a′ p)) (lt-of-le-of-lt (and-le-l s ((2 ^ 64 - 1) - l)) h) (λ q _.
+      collect-is 64 (bitAnd s ((2 ^ 64 - 1) - l)) (λ p. mem p s && not (sameSide g a′ p))
+      (lt-of-le-of-lt (and-le-l s ((2 ^ 64 - 1) - l)) h) (λ q _.
       mem-minus 64 q s l h l64 ∙ ap (λ (x : ℕ). mem q s && not (mem q x)) e
       ∙ ap (λ (b : Bool). mem q s && not b) (mem-part s (sameSide g a′) h q) ∙ once (mem q s) (sameSide g a′ q))
     where

@@ -2,7 +2,7 @@
 use Prim.Native.Nat.{ℕ, suc, _+_, _-_, _^_, _≤_, _<_}
 use native.Mathlib.Omega.{arith}
 use native.Mathlib.Decide.{decLt}
-use mathlib.Core.Path.{_≡_, refl, sym, ap, ap₂, _∙_, subst}
+use mathlib.Core.Path.{_≡_, sym, ap, ap₂, _∙_, subst}
 use mathlib.Core.Bool.{Bool, true, false, not, _&&_}
 use lib.Dec.{eqb, ltb}
 use borrow.Author.Tests.{eqb-true, eqb-false, ne-eqb, lt-ltb, not-true}
@@ -19,7 +19,8 @@ pub seek-lowest : (f : ℕ → Bool) (d i n w : ℕ) → i + d ≡ n → 0 < w �
 seek-lowest f d i n w e pos h within is =
     let m : mem (lowest w) w ≡ true = lowest-in w pos h in
     let b : (i ≤ lowest w) × (lowest w < n) = within (lowest w) m in
-    seek-is f d i (lowest w) (b .0) (omega arith) (sym (is (lowest w) (b .0) (b .1)) ∙ m) (λ j x y. sym (is j x (omega arith)) ∙ lowest-least w j y)
+    seek-is f d i (lowest w) (b .0) (omega arith) (sym (is (lowest w) (b .0) (b .1)) ∙ m)
+    (λ j x y. sym (is j x (omega arith)) ∙ lowest-least w j y)
 
 -- left has the members of s from some vertex on
 pub record Sweep (s left : ℕ) : Type 0 where
@@ -52,7 +53,8 @@ module _ {s left : ℕ} (d : Sweep s left) (pos : 0 < left) where
   above-rest q m h =
       mem-rest left pos (d .fits) q
       ∙ and-intro (mem q left) (not (eqb q p))
-      (cases (mem q left ≡ true) (mem q left) (λ x. x) (λ x. absurd (let z : q < p = d .low q p m x (lowest-in left pos (d .fits)) in omega arith)))
+      (cases (mem q left ≡ true) (mem q left) (λ x. x)
+      (λ x. absurd (let z : q < p = d .low q p m x (lowest-in left pos (d .fits)) in omega arith)))
       (ap not (ne-eqb q p (omega arith)))
 
   -- a member that is not left behind the lowest vertex is it, or was not left before
@@ -127,5 +129,6 @@ module _ {s n : ℕ} {bad : ℕ → ℕ → Bool} {left : ℕ} (u : Run s n bad 
           cases (bad m q ≡ false) (mem m s) (λ t. u .done m q t (lowest-least left m y) j k) (λ t. outside m q x t)))
 
 -- where nothing is left, no member is in a bad pair as its first
-pub run-end : {s n : ℕ} {bad : ℕ → ℕ → Bool} {left : ℕ} → left ≡ 0 → Run s n bad left → (p q : ℕ) → mem p s ≡ true → p < q → q < n → bad p q ≡ false
+pub run-end : {s n : ℕ} {bad : ℕ → ℕ → Bool} {left : ℕ} → left ≡ 0 → Run s n bad left → (p q : ℕ) → mem p s ≡ true → p < q → q < n
+    → bad p q ≡ false
 run-end z u p q m a b = u .done p q m (ap (mem p) z ∙ mem-none p) a b

@@ -1,14 +1,14 @@
 -- The verdicts: a set is balanced exactly where no edge is missing and no triple is odd, and the verdict is group exactly for the groups. Assumes nothing.
-use Prim.Native.Nat.{ℕ, suc, _-_, _^_, _≤_, _<_}
+use Prim.Native.Nat.{ℕ, suc, _-_, _^_, _<_}
 use native.Mathlib.Omega.{arith}
 use native.Mathlib.Decide.{decLt, ℕ-discrete}
 use mathlib.Core.Path.{_≡_, refl, sym, ap, ap₂, _∙_}
-use mathlib.Core.Logic.{_≢_, _↔_}
+use mathlib.Core.Logic.{_≢_}
 use mathlib.Core.Bool.{Bool, true, false, not, _&&_, _||_, Bool·beq, Bool·not-not}
 use lib.Dec.{leb, ltb, eqb}
-use borrow.Author.Tests.{ltb-true, ltb-false, lt-leb, le-leb, le-ltb, lt-ltb, eq-eqb, ne-eqb, eqb-false, not-true, not-false}
+use borrow.Author.Tests.{ltb-false, lt-leb, le-leb, le-ltb, lt-ltb, eq-eqb, ne-eqb, eqb-false, not-false}
 use Rattle.vertex_set.specs.Sets.{mem, Subset, size, lowest}
-use Rattle.vertex_set.proofs.Booleans.{clash, cases, iff, and-intro, and-left, and-right, and-other, fails-left, fails-right, beq-eq, eq-beq, beq-ne, ne-beq}
+use Rattle.vertex_set.proofs.Booleans.{clash, cases, and-intro, and-left, and-right, and-other, fails-left, fails-right, beq-eq, eq-beq, beq-ne, ne-beq}
 use Rattle.vertex_set.proofs.Ranges.{seek-none, none-seek}
 use Rattle.vertex_set.proofs.Membership.{mem-lt, mem-pos}
 use Rattle.vertex_set.proofs.LowestVertex.{lowest-in, lowest-le}
@@ -17,11 +17,11 @@ use Rattle.signed_graph.specs.Graphs.{positiveEdge, negativeEdge, edge, vertice
 use Rattle.signed_graph.proofs.Soundness.{Sound, mem-vertices}
 use Rattle.clique.specs.declared.Verdict.{Verdict}
 use Rattle.clique.specs.declared.Verdict.the-variants as Is
-use Rattle.clique.specs.Balance.{Balanced, agrees, sameSide, balanced, left, right}
+use Rattle.clique.specs.Balance.{agrees, sameSide, balanced, left, right}
 use Rattle.clique.specs.Groups.{floor, Group, extension, isGroup}
 use Rattle.clique.specs.Verdicts.{provided, _orElse_, firstOutside, lacksEdge, missingSecond, missingFirst, oneOrThree, oddTriple, oddThird, oddSecond, oddFirst, verdict}
-use Rattle.clique.proofs.Balance.{agrees-inside, agrees-across, agrees-of, side-self, side-other, usable-lt, usable-64, agrees-comm, Passes, passes, passed, balanced-words, words-balanced, balanced-sides, is-left, is-right}
-use Rattle.clique.proofs.Groups.{extension-found, none-extends, extends-none, single-maximal, maximal-single, group-words, words-group}
+use Rattle.clique.proofs.Balance.{agrees-inside, agrees-across, agrees-of, side-self, side-other, usable-lt, usable-64, agrees-comm, passes, passed, balanced-words, words-balanced, is-left, is-right}
+use Rattle.clique.proofs.Groups.{extension-found, extends-none, maximal-single, group-words}
 
 -- ---- the first verdict that applies
 
@@ -128,7 +128,8 @@ module _ (g : SignedGraph) (so : Sound g) (s : ℕ) (u : Subset s (vertices g)) 
     sign : (p q : ℕ) → p < q → mem p s ≡ true → mem q s ≡ true → positiveEdge g p q ≡ not (negativeEdge g p q)
     sign p q l x y =
         one (positiveEdge g p q) (negativeEdge g p q)
-        (not-false (edge g p q) (and-other (mem p s && mem q s) (not (edge g p q)) (complete p q l (usable-lt g so s u q y)) (and-intro (mem p s) (mem q s) x y)))
+        (not-false (edge g p q) (and-other (mem p s && mem q s) (not (edge g p q)) (complete p q l (usable-lt g so s u q y))
+        (and-intro (mem p s) (mem q s) x y)))
         (so .apart p q)
       where
         one : (b c : Bool) → (b || c) ≡ true → (b ≡ true → c ≡ false) → b ≡ not c
@@ -167,7 +168,8 @@ module _ (g : SignedGraph) (so : Sound g) (s : ℕ) (u : Subset s (vertices g)) 
     up p q l x y =
         agrees-of g (sameSide g a) p q
         (λ e. positive-side p q l x y ∙ eq-beq (sameSide g a p) (sameSide g a q) e)
-        (λ e. sym (Bool·not-not (negativeEdge g p q)) ∙ ap not (sym (sign p q l x y) ∙ positive-side p q l x y ∙ ne-beq (sameSide g a p) (sameSide g a q) e))
+        (λ e. sym (Bool·not-not (negativeEdge g p q))
+        ∙ ap not (sym (sign p q l x y) ∙ positive-side p q l x y ∙ ne-beq (sameSide g a p) (sameSide g a q) e))
 
     pub even-balanced : balanced g s ≡ true
     even-balanced = passed g so s (record { usable = u; agreeing = λ p q d x y. pick p q d x y (decLt p q) })
@@ -179,12 +181,6 @@ module _ (g : SignedGraph) (so : Sound g) (s : ℕ) (u : Subset s (vertices g)) 
   -- ---- balanced sets are complete and even
 
   module _ (b : balanced g s ≡ true) where
-    h : Passes g so s
-    h = passes g so s b
-
-    side : ℕ → Bool
-    side = sameSide g (lowest s)
-
     pub balanced-complete : (p q : ℕ) → p < q → q < g .n → lacksEdge g s p q ≡ false
     balanced-complete p q l k =
         cases (lacksEdge g s p q ≡ false) (mem p s && mem q s)
@@ -192,7 +188,8 @@ module _ (g : SignedGraph) (so : Sound g) (s : ℕ) (u : Subset s (vertices g)) 
         (ap not (balanced-words g so s b .complete p q (omega arith) (and-left (mem p s) (mem q s) m) (and-right (mem p s) (mem q s) m))))
         (λ m. fails-left (mem p s && mem q s) (not (edge g p q)) m)
 
-    negative-side : (p q : ℕ) → p ≢ q → mem p s ≡ true → mem q s ≡ true → negativeEdge g p q ≡ not (Bool·beq (sameSide g (lowest s) p) (sameSide g (lowest s) q))
+    negative-side : (p q : ℕ) → p ≢ q → mem p s ≡ true → mem q s ≡ true
+        → negativeEdge g p q ≡ not (Bool·beq (sameSide g (lowest s) p) (sameSide g (lowest s) q))
     negative-side p q d x y =
         let t : ℕ → Bool = sameSide g (lowest s) in
         let ok : agrees g t p q ≡ true = passes g so s b .agreeing p q d x y in
@@ -202,7 +199,8 @@ module _ (g : SignedGraph) (so : Sound g) (s : ℕ) (u : Subset s (vertices g)) 
 
     pub balanced-even : (p q r : ℕ) → p < q → q < r → r < g .n → oddTriple g s p q r ≡ false
     balanced-even p q r l k _ =
-        triple-even g s (sameSide g (lowest s)) p q r (negative-side p q (omega arith)) (negative-side p r (omega arith)) (negative-side q r (omega arith))
+        triple-even g s (sameSide g (lowest s)) p q r (negative-side p q (omega arith)) (negative-side p r (omega arith))
+        (negative-side q r (omega arith))
 
 module _ (g : SignedGraph) (so : Sound g) (s : ℕ) (s64 : s < 2 ^ 64) where
   -- ---- sets of the graph's vertices
@@ -244,7 +242,8 @@ module _ (g : SignedGraph) (so : Sound g) (s : ℕ) (s64 : s < 2 ^ 64) where
         ∙ passes-by (not (floor k (size l) (size r))) _ _ (ap not
         (ap₂ (λ (x y : ℕ). floor k (size x) (size y)) (sym (is-left g so s (h .left-side) (h .right-side) s64 (h .sides)))
         (sym (is-right g so s (h .left-side) (h .right-side) s64 (h .sides))) ∙ h .enough))
-        ∙ passes-by (ltb (extension g s) (g .n)) _ _ (le-ltb (extension g s) (g .n) (omega (arith, extends-none g so s (maximal-single g so s (h .maximal)))))
+        ∙ passes-by (ltb (extension g s) (g .n)) _ _
+        (le-ltb (extension g s) (g .n) (omega (arith, extends-none g so s (maximal-single g so s (h .maximal)))))
 
     pub verdict-group : (x y : ℕ) → verdict g k s ≡ Is.Group x y → Group g k s
     unfolding verdict isGroup

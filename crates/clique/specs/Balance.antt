@@ -43,14 +43,15 @@ agrees g side p q = cond (Bool·beq (side p) (side q)) (positiveEdge g p q) (neg
 abbrev pub sameSide : SignedGraph → ℕ → ℕ → Bool
 sameSide g a p = eqb p a || positiveEdge g a p
 
--- s is balanced, with the side of its lowest vertex for left
+-- every two vertices of s are joined as their sides ask
 unfoldable pub allAgree : SignedGraph → (ℕ → Bool) → ℕ → Bool
 allAgree g side s = all (g .n) (λ q. not (mem q s) || all q (λ p. not (mem p s) || agrees g side p q))
 
+-- s is balanced, left being the side of its lowest vertex
 unfoldable pub balanced : SignedGraph → ℕ → Bool
 balanced g s = eqb (bitAnd s (vertices g)) s && allAgree g (sameSide g (lowest s)) s
 
--- the vertices of s on the side of its lowest one, and the others
+-- left: the vertices of s on the side of its lowest one; right: the others
 unfoldable pub left : SignedGraph → ℕ → ℕ
 left g s = collect 64 (λ p. mem p s && sameSide g (lowest s) p)
 

@@ -1,4 +1,5 @@
--- The verdict on a set of vertices (document 01: the judge): the first that applies, with its data. Assumes nothing.
+-- The verdict on a set of vertices (document 01: the judge): the first that applies, with its data.
+-- Each bears document 01's name: empty, foreign, missing, torn, short, widens, group. Assumes nothing.
 use Prim.Native.Nat.{ℕ, suc, _+_, _-_}
 use mathlib.Core.Bool.{Bool, true, false, not, _&&_, _||_}
 use mathlib.Core.Option.{Option, none, some}
@@ -28,7 +29,7 @@ abbrev pub _orElse_ : Option Verdict → Verdict → Verdict
 some v orElse w = v
 none orElse w = w
 
--- document 01: empty
+-- empty: it has no vertex
 abbrev pub empty : ℕ → Option Verdict
 empty s = provided (eqb s 0) Empty
 
@@ -78,7 +79,7 @@ unbalanced g s =
     let p = oddFirst g s in
     let q = oddSecond g s p in provided (ltb p (g .n)) (Unbalanced p q (oddThird g s p q))
 
--- short: the sizes of its sides
+-- short: a side is too small; the sizes of left and right
 abbrev pub tooSmall : SignedGraph → ℕ → ℕ → Option Verdict
 tooSmall g k s =
     let l = size (left g s) in
@@ -88,11 +89,16 @@ tooSmall g k s =
 abbrev pub extensible : SignedGraph → ℕ → Option Verdict
 extensible g s = provided (ltb (extension g s) (g .n)) (Extensible (extension g s))
 
--- the verdict on s at threshold k
+-- the verdict on s at threshold k; group, with left and right, where no other applies
 unfoldable pub verdict : SignedGraph → ℕ → ℕ → Verdict
 verdict g k s =
-    empty s orElse outOfRange g s orElse missingEdge g s orElse unbalanced g s orElse tooSmall g k s
-    orElse extensible g s orElse Group (left g s) (right g s)
+    empty s
+    orElse outOfRange g s
+    orElse missingEdge g s
+    orElse unbalanced g s
+    orElse tooSmall g k s
+    orElse extensible g s
+    orElse Group (left g s) (right g s)
 
 -- the answer of the call: the verdict, or none where the call is refused
 abbrev pub answerTo : Check → Verdict → Classified

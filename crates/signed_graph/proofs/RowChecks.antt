@@ -2,15 +2,14 @@
 use Prim.Native.Nat.{ℕ, _-_, _^_, _≤_, _<_}
 use native.Mathlib.Omega.{arith}
 use native.Mathlib.Nat.{lt-of-le-of-lt}
-use mathlib.Core.Path.{_≡_, refl, sym, ap, ap₂, _∙_, subst}
+use mathlib.Core.Path.{_≡_, sym, ap, ap₂, _∙_}
 use mathlib.Core.Bool.{Bool, true, false, not, _&&_, _||_}
 use mathlib.Core.List.{List}
 use lib.Dec.{leb, eqb}
 use lib.ListN.{getD, length}
 use lib.Bits.{bitAnd, and-le-l}
 use lib.Pow.{pow-pos}
-use borrow.Author.Tests.{leb-true, eqb-true, le-leb, lt-leb, eq-eqb, not-true}
-use Rattle.vertex_set.specs.Ranges.{all}
+use borrow.Author.Tests.{leb-true, eqb-true, le-leb, eq-eqb, not-true}
 use Rattle.vertex_set.specs.Sets.{mem, lowest}
 use Rattle.vertex_set.proofs.Booleans.{clash, cases, iff, and-intro, and-left, and-right, fails-left, imp-intro, imp-elim}
 use Rattle.vertex_set.proofs.Ranges.{all-at, all-of, all-fails}
@@ -18,7 +17,7 @@ use Rattle.vertex_set.proofs.Membership.{mem-none, mem-and, mem-ext}
 use Rattle.vertex_set.proofs.LowestVertex.{rest, rest-lt, mem-rest, lowest-lt, lowest-in}
 use Rattle.signed_graph.specs.declared.SignedGraph.{SignedGraph}
 use Rattle.signed_graph.specs.Graphs.{positiveEdge, negativeEdge}
-use Rattle.signed_graph.specs.Soundness.{sound, eachTable, whole, loopless, symmetric, confined, unambiguous}
+use Rattle.signed_graph.specs.Soundness.{sound, loopless, symmetric}
 use Rattle.signed_graph.specs.Rows.{symmetricRow, rowSound, tableSound, disjointTables, tablesSound}
 use Rattle.signed_graph.proofs.Soundness.{Table, to-table, Sound, to-sound, from-sound}
 
@@ -72,7 +71,8 @@ module _ (n : ℕ) (rows : List ℕ) (small : n ≤ 64) (top : ℕ) (e : top ≡
   unfolding tableSound rowSound symmetricRow
   checked-table w t =
       to-table n rows small w
-      (λ p h. let l : row p ≤ top = leb-true (row p) top (and-left (leb (row p) top) (not (mem p (row p))) (two p h)) in omega (arith, pow-pos n))
+      (λ p h. let l : row p ≤ top = leb-true (row p) top (and-left (leb (row p) top) (not (mem p (row p))) (two p h)) in
+      omega (arith, pow-pos n))
       (λ p h. not-true (mem p (row p)) (and-right (leb (row p) top) (not (mem p (row p))) (two p h)))
       (λ p q h k. iff (mem q (row p)) (mem p (row q)) (back p q h k) (back q p k h))
     where
@@ -144,7 +144,8 @@ module _ (g : SignedGraph) where
         (λ t.
         let s : Sound g = to-sound g t in
         and-intro (a && b) c
-        (and-intro a b (table-checked (g .n) (g .positive) small top e (s .positives)) (table-checked (g .n) (g .negative) small top e (s .negatives)))
+        (and-intro a b (table-checked (g .n) (g .positive) small top e (s .positives))
+        (table-checked (g .n) (g .negative) small top e (s .negatives)))
         (apart-disjoint s))
       where
         a : Bool

@@ -3,7 +3,7 @@ use Prim.Native.Nat.{ℕ, _^_, _≤_, _<_}
 use native.Mathlib.Nat.{lt-of-lt-of-le}
 use native.Mathlib.Omega.{arith}
 use native.Mathlib.Decide.{decLt}
-use mathlib.Core.Path.{_≡_, refl, sym, ap, ap₂, _∙_, subst}
+use mathlib.Core.Path.{_≡_, sym, ap, ap₂, _∙_, subst}
 use mathlib.Core.Bool.{Bool, true, false, not, _&&_, _||_, Bool·beq}
 use mathlib.Core.List.{List}
 use lib.Dec.{leb, ltb, eqb}
@@ -12,9 +12,10 @@ use lib.Pow.{pow-pos, pow-mono}
 use borrow.Author.Tests.{leb-true, ltb-true, eqb-true, le-leb, lt-ltb, eq-eqb, not-true}
 use Rattle.vertex_set.specs.Ranges.{all}
 use Rattle.vertex_set.specs.Sets.{mem}
-use Rattle.vertex_set.proofs.Booleans.{clash, cases, and-intro, and-left, and-right, and-other, or-left, or-right, beq-eq, eq-beq}
+use Rattle.vertex_set.proofs.Booleans.{cases, and-intro, and-left, and-right, and-other, or-left, or-right, beq-eq, eq-beq}
 use Rattle.vertex_set.proofs.Ranges.{all-at, all-of}
-use Rattle.vertex_set.proofs.Membership.{mem-past, mem-none, mem-lt, mem-ext, mem-below}
+use Rattle.vertex_set.proofs.Membership.{mem-past, mem-none, mem-lt, mem-ext}
+use Rattle.vertex_set.proofs.Collections.{mem-below}
 use Rattle.signed_graph.specs.declared.SignedGraph.{SignedGraph}
 use Rattle.signed_graph.specs.Graphs.{positiveEdge, negativeEdge, vertices}
 use Rattle.signed_graph.specs.Soundness.{eachTable, whole, loopless, symmetric, confined, unambiguous, sound}
@@ -103,13 +104,15 @@ module _ (n : ℕ) (rows : List ℕ) (t : Table n rows) where
   unfolding symmetric
   is-symmetric =
       all-of (λ p. all 64 (λ q. Bool·beq (mem q (getD rows p 0)) (mem p (getD rows q 0)))) 64 (λ p h.
-      all-of (λ q. Bool·beq (mem q (getD rows p 0)) (mem p (getD rows q 0))) 64 (λ q k. eq-beq (mem q (getD rows p 0)) (mem p (getD rows q 0)) (t .symmetric p q)))
+      all-of (λ q. Bool·beq (mem q (getD rows p 0)) (mem p (getD rows q 0))) 64
+      (λ q k. eq-beq (mem q (getD rows p 0)) (mem p (getD rows q 0)) (t .symmetric p q)))
 
   pub is-confined : confined n rows ≡ true
   unfolding confined
   is-confined =
       all-of (λ p. ltb (getD rows p 0) (2 ^ n) && (ltb p n || eqb (getD rows p 0) 0)) 64 (λ p h.
-      and-intro (ltb (getD rows p 0) (2 ^ n)) (ltb p n || eqb (getD rows p 0) 0) (lt-ltb (getD rows p 0) (2 ^ n) (t .low p)) (part p (decLt p n)))
+      and-intro (ltb (getD rows p 0) (2 ^ n)) (ltb p n || eqb (getD rows p 0) 0) (lt-ltb (getD rows p 0) (2 ^ n) (t .low p))
+      (part p (decLt p n)))
     where
       part : (p : ℕ) → Dec (p < n) → (ltb p n || eqb (getD rows p 0) 0) ≡ true
       part p (yes x) = or-left (ltb p n) (eqb (getD rows p 0) 0) (lt-ltb p n x)

@@ -9,7 +9,7 @@ ghost use Rattle.signed_graph.specs.Calls.{checkOf, numberOf, refusalNum
 pub const MOST_VERTICES: u64 = 64;
 
 // The largest threshold that a call takes.
-pub const MOST_THRESHOLD: u64 = 32;
+pub const LARGEST_THRESHOLD: u64 = 32;
 
 // The vertices are 0 to n - 1. A table has a row for each of 64 vertices: the set of its partners by edges of that sign.
 pub struct SignedGraph {
@@ -132,7 +132,7 @@ pub fn is_sound(g: SignedGraph) -> bool
     tables_sound(&g.positive, &g.negative, top)
 }
 
-// Whether a call on g with threshold k is refused: an unsound graph first, then a threshold over MOST_THRESHOLD.
+// Whether a call on g with threshold k is refused: an unsound graph first, then a threshold over LARGEST_THRESHOLD.
 pub fn check_call(g: SignedGraph, k: u64) -> Check
     ensures { λ r. ⌜ r ≡ checkOf g k ⌝ }
     ensures { λ r. ⌜ numberOf r ≡ refusalNumber g k ⌝ }
@@ -140,7 +140,7 @@ pub fn check_call(g: SignedGraph, k: u64) -> Check
     if !is_sound(g) {
         return Check::Refused(Refusal::Unsound);
     }
-    if MOST_THRESHOLD < k {
+    if LARGEST_THRESHOLD < k {
         return Check::Refused(Refusal::ThresholdTooLarge);
     }
     Check::Accepted

@@ -2,7 +2,7 @@
 use mathlib.Core.Path.{_≡_, refl, sym, ap, ap₂, _∙_, subst}
 use mathlib.Core.Logic.{_⊎_, inl, inr}
 use mathlib.Core.Bool.{Bool, true, false, not, _&&_, and-false, and-true}
-use Prim.Native.Nat.{ℕ, zero, suc, _+_, _-_, _/_, _%_, _^_, _≤_, _<_, min}
+use Prim.Native.Nat.{ℕ, zero, suc, _+_, _-_, _/_, _%_, _^_, _≤_, _<_}
 use native.Mathlib.Nat.{div-one, zero-add, mod-lt, zero-lt-suc, pow-suc, lt-irrefl, lt-of-le-of-lt, le-refl, eq-zero-or-pos}
 use native.Mathlib.Numerals.{add-one}
 use native.Mathlib.Omega.{arith}
@@ -12,7 +12,7 @@ use lib.Arith.{lt-one, le-zero}
 use lib.Pow.{shr-shr, pow-pos}
 use lib.Bits.{bitAnd, and-shr, and-self, and-le-l}
 use lib.Count.{trailingZeros, under}
-use Rattle.vertex_set.specs.Ranges.{count, seek}
+use Rattle.vertex_set.specs.Ranges.{seek}
 use Rattle.vertex_set.specs.Sets.{mem, size, lowest}
 use Rattle.vertex_set.proofs.Booleans.{clash}
 use Rattle.vertex_set.proofs.Ranges.{count-cong, count-without, Found, found, seek-is}
@@ -62,15 +62,15 @@ module _ (s : ℕ) where
 -- ---- the lowest member
 
 module _ (s : ℕ) where
-  search : Found (λ p. mem p s) 64 0 (lowest s)
+  lowest-found : Found (λ p. mem p s) 64 0 (lowest s)
   unfolding lowest
-  search = found (λ p. mem p s) 64 0
+  lowest-found = found (λ p. mem p s) 64 0
 
   pub lowest-least : (j : ℕ) → j < lowest s → mem j s ≡ false
-  lowest-least j h = search .miss j (omega arith) h
+  lowest-least j h = lowest-found .miss j (omega arith) h
 
   pub lowest-hit : lowest s < 64 → mem (lowest s) s ≡ true
-  lowest-hit h = search .hit (omega arith)
+  lowest-hit h = lowest-found .hit (omega arith)
 
   pub lowest-le : (p : ℕ) → mem p s ≡ true → lowest s ≤ p
   lowest-le p m = go (decLe (lowest s) p)
@@ -122,7 +122,8 @@ zeros-rest (suc k) s p h = go (zeros-rest k (s / 2)) (s % 2) refl
       where
         pick : (d : ℕ) → s % 2 ≡ d → (mem zero s && mem zero (s - 1)) ≡ false
         pick zero e = none (mem zero s) (mem zero (s - 1)) (even-out s e)
-        pick (suc d) e = ap (λ (b : Bool). mem zero s && b) (even-out (s - 1) (omega (arith, mod-lt s (zero-lt-suc 1)))) ∙ and-false (mem zero s)
+        pick (suc d) e = ap (λ (b : Bool). mem zero s && b) (even-out (s - 1) (omega (arith, mod-lt s (zero-lt-suc 1))))
+            ∙ and-false (mem zero s)
 
     go : (0 < s / 2 → s / 2 < 2 ^ k → (q : ℕ) → mem q (rest (s / 2)) ≡ (mem q (s / 2) && not (eqb q (trailingZeros k (s / 2)))))
         → (d : ℕ) → s % 2 ≡ d → (q : ℕ) → mem q (rest s) ≡ (mem q s && not (eqb q (under d (trailingZeros k (s / 2)))))

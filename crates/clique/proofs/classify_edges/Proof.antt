@@ -21,43 +21,14 @@ abbrev μ-loop : tie.MeasureT-loop
 loop-holds : tie.Need-loop-holds Inv-loop μ-loop
 loop-holds c = run-begin (c .args .s) (c .args .t1 .n) (lacksEdge (c .args .t1) (c .args .s)) (known-64 (c .pre))
 
-mul-missing : tie.Need-mul-missing Inv-loop μ-loop
-mul-missing c =
-    let l = c .before .before .loop in
-    let pos : 0 < l .left = search needs in
-    omega (arith, c .lowest .ensures, lowest-lt (l .left) pos (l .inv .sweep .fits))
-
-element-copy-out-missing : tie.Need-element-copy-out-missing Inv-loop μ-loop
-element-copy-out-missing c =
-    let l = c .before .before .loop in
-    let pos : 0 < l .left = search needs in
-    omega (arith, c .lowest .ensures, lowest-lt (l .left) pos (l .inv .sweep .fits))
-
-mul-missing-2 : tie.Need-mul-missing-2 Inv-loop μ-loop
-mul-missing-2 c =
-    let l = c .before .before .before .loop in
-    let pos : 0 < l .left = search needs in
-    omega (arith, c .before .lowest .ensures, lowest-lt (l .left) pos (l .inv .sweep .fits))
-
-element-copy-out-missing-2 : tie.Need-element-copy-out-missing-2 Inv-loop μ-loop
-element-copy-out-missing-2 c =
-    let l = c .before .before .before .loop in
-    let pos : 0 < l .left = search needs in
-    omega (arith, c .before .lowest .ensures, lowest-lt (l .left) pos (l .inv .sweep .fits))
-
 returns : tie.Need-returns Inv-loop μ-loop
 returns c =
     let b = c .before .before .before .before .before .before .before in
     let l = c .before .before .before .before .before .before .loop in
     let p = c .before .before .before .before .lowest in
     let pos : 0 < l .left = search needs in
-    ap (MissingEdge (p .result)) (c .lowest2 .ensures) ∙ sym (says-missing (b .pre) (l .inv) pos (p .result) (p .ensures) (b .args .k) (search needs))
-
-loop-less : tie.Need-loop-less Inv-loop μ-loop
-loop-less c =
-    let l = c .before .before .before .before .before .loop in
-    let pos : 0 < l .left = search needs in
-    omega (arith, size-rest (l .left) pos (l .inv .sweep .fits))
+    ap (MissingEdge (p .result)) (c .lowest2 .ensures)
+    ∙ sym (says-missing (b .pre) (l .inv) pos (p .result) (p .ensures) (b .args .k) (search needs))
 
 loop-again : tie.Need-loop-again Inv-loop μ-loop
 loop-again c =
@@ -85,13 +56,13 @@ classify-edges-spec =
     loop-holds
     (λ c κs. search needs)
     (λ c. search needs)
-    mul-missing
-    element-copy-out-missing
-    mul-missing-2
-    element-copy-out-missing-2
+    (λ c. omega (arith, c .lowest .ensures, lowest-lt _ (search needs) (c .before .before .loop .inv .sweep .fits)))
+    (λ c. omega (arith, c .lowest .ensures, lowest-lt _ (search needs) (c .before .before .loop .inv .sweep .fits)))
+    (λ c. omega (arith, c .before .lowest .ensures, lowest-lt _ (search needs) (c .before .before .before .loop .inv .sweep .fits)))
+    (λ c. omega (arith, c .before .lowest .ensures, lowest-lt _ (search needs) (c .before .before .before .loop .inv .sweep .fits)))
     (λ c κs. search needs)
     returns
-    loop-less
+    (λ c. omega (arith, size-rest _ (search needs) (c .before .before .before .before .before .loop .inv .sweep .fits)))
     loop-again
     classify-triples-requires
     returns-2)

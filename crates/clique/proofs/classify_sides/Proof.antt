@@ -7,12 +7,6 @@ use Rattle.clique.proofs.Stages.{sided-lt, halved, says-too-small, past
 use Rattle.clique.proofs.classify_sides.Statement.{statement}
 use Rattle.clique.proofs.classify_sides.Tie as tie
 
-mul-l : tie.Need-mul-l
-mul-l c = omega (arith, c .lowest .ensures, sided-lt (c .before .pre))
-
-element-copy-out-l : tie.Need-element-copy-out-l
-element-copy-out-l c = omega (arith, c .lowest .ensures, sided-lt (c .before .pre))
-
 returns : tie.Need-returns
 returns c =
     let f = c .before .large-enough in
@@ -21,7 +15,8 @@ returns c =
     let o = c .before .before .before .before .single in
     let a = c .before .before .before .before .before .before .lowest in
     let b = c .before .before .before .before .before .before .before in
-    sym (says-too-small (halved (b .pre) (a .result) (o .result) (a .ensures) (o .ensures)) (b .args .k) (l .result) (r .result) (l .ensures) (r .ensures)
+    sym (says-too-small (halved (b .pre) (a .result) (o .result) (a .ensures) (o .ensures)) (b .args .k) (l .result) (r .result)
+    (l .ensures) (r .ensures)
     (sym (f .ensures) ∙ not-true (f .result) (c .if1 .taken)))
 
 classify-extension-requires : tie.Need-classify-extension-requires
@@ -40,7 +35,8 @@ returns-2 c =
     let a = c .before .before .before .before .before .before .before .lowest in
     let b = c .before .before .before .before .before .before .before .before in
     c .classify-extension .ensures
-    ∙ sym (past-sides (halved (b .pre) (a .result) (o .result) (a .ensures) (o .ensures)) (b .args .k) (l .result) (r .result) (l .ensures) (r .ensures)
+    ∙ sym (past-sides (halved (b .pre) (a .result) (o .result) (a .ensures) (o .ensures)) (b .args .k) (l .result) (r .result)
+    (l .ensures) (r .ensures)
     (sym (f .ensures) ∙ not-false (f .result) (c .before .if1 .left)))
 
 pub classify-sides-spec : {M : Type 1} → statement M
@@ -48,8 +44,8 @@ classify-sides-spec =
     tie.close
     (tie.spec
     (λ c κs. search needs)
-    mul-l
-    element-copy-out-l
+    (λ c. omega (arith, c .lowest .ensures, sided-lt (c .before .pre)))
+    (λ c. omega (arith, c .lowest .ensures, sided-lt (c .before .pre)))
     (λ c κs. search needs)
     (λ c κs. search needs)
     (λ c κs. search needs)

@@ -19,7 +19,8 @@ returns-2 c =
     let b = c .before .before .before .before in
     let u = c .before .before .below in
     ap OutOfRange (c .lowest .ensures)
-    ∙ sym (says-out-of-range (b .args .g) (b .pre) (b .args .s) (u .result) (b .fits .s .fits) (u .ensures) (b .args .k) (c .before .before .before .if1 .left) (search needs))
+    ∙ sym (says-out-of-range (b .args .g) (b .pre) (b .args .s) (u .result) (b .fits .s .fits) (u .ensures) (b .args .k)
+    (c .before .before .before .if1 .left) (search needs))
 
 classify-edges-requires : tie.Need-classify-edges-requires
 classify-edges-requires c κs =
@@ -32,7 +33,8 @@ returns-3 c =
     let b = c .before .before .before .before in
     let u = c .before .before .below in
     c .classify-edges .ensures
-    ∙ sym (past-range (b .args .g) (b .pre) (b .args .s) (u .result) (b .fits .s .fits) (u .ensures) (b .args .k) (c .before .before .before .if1 .left) (c .before .if2 .left))
+    ∙ sym (past-range (b .args .g) (b .pre) (b .args .s) (u .result) (b .fits .s .fits) (u .ensures) (b .args .k)
+    (c .before .before .before .if1 .left) (c .before .if2 .left))
 
 pub classify-sound-spec : {M : Type 1} → statement M
 classify-sound-spec =

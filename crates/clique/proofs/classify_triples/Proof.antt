@@ -1,9 +1,8 @@
 -- `clique::classify_triples` meets its contract. No vertex that is not left is in an odd triple with the lowest one as its second. Assumes nothing.
-use mathlib.Core.Path.{_≡_, sym, ap, _∙_}
-use Prim.Native.Nat.{ℕ, _<_}
+use mathlib.Core.Path.{sym, ap, _∙_}
+use Prim.Native.Nat.{_<_}
 use native.Mathlib.Omega.{arith}
 use borrow.Author.Needs.{needs}
-use lib.ListN.{getD}
 use Rattle.vertex_set.specs.Sets.{size, lowest}
 use Rattle.vertex_set.proofs.LowestVertex.{rest, lowest-lt, size-rest}
 use Rattle.clique.specs.declared.Verdict.the-variants.{Unbalanced}
@@ -19,31 +18,14 @@ Inv-loop k s g a row left₀ left = Run (rest s) (g .n) (oddTriple g s (lowest s
 abbrev μ-loop : tie.MeasureT-loop
 μ-loop k s g a row left₀ left = size left
 
-mul-row : tie.Need-mul-row Inv-loop μ-loop
-mul-row c =
-    omega (arith, c .lowest .ensures, lowest-lt (c .before .args .s) (c .before .pre .known .nonempty) (known-64 (c .before .pre .known)))
-
-element-copy-out-row : tie.Need-element-copy-out-row Inv-loop μ-loop
-element-copy-out-row c =
-    omega (arith, c .lowest .ensures, lowest-lt (c .before .args .s) (c .before .pre .known .nonempty) (known-64 (c .before .pre .known)))
+row-index : tie.Need-element-copy-out-row Inv-loop μ-loop
+row-index c = omega (arith, c .lowest .ensures, lowest-lt _ (c .before .pre .known .nonempty) (known-64 (c .before .pre .known)))
 
 sub-left : tie.Need-sub-left Inv-loop μ-loop
 sub-left c = omega (arith, c .before .before .pre .known .nonempty)
 
 loop-holds : tie.Need-loop-holds Inv-loop μ-loop
 loop-holds c = triples-begin (c .before .before .pre)
-
-mul-odd-part : tie.Need-mul-odd-part Inv-loop μ-loop
-mul-odd-part c =
-    let l = c .before .before .loop in
-    let pos : 0 < l .left = search needs in
-    omega (arith, c .lowest2 .ensures, lowest-lt (l .left) pos (l .inv .sweep .fits))
-
-element-copy-out-odd-part : tie.Need-element-copy-out-odd-part Inv-loop μ-loop
-element-copy-out-odd-part c =
-    let l = c .before .before .loop in
-    let pos : 0 < l .left = search needs in
-    omega (arith, c .lowest2 .ensures, lowest-lt (l .left) pos (l .inv .sweep .fits))
 
 returns : tie.Need-returns Inv-loop μ-loop
 returns c =
@@ -55,13 +37,8 @@ returns c =
     let pos : 0 < l .left = search needs in
     let some : 0 < o .result = search needs in
     ap (Unbalanced (a .result) (q .result)) (c .lowest3 .ensures)
-    ∙ sym (says-unbalanced (b .pre) (l .inv) pos (a .result) (q .result) (o .result) (a .ensures) (q .ensures) (o .ensures) (b .args .k) some (o .ok))
-
-loop-less : tie.Need-loop-less Inv-loop μ-loop
-loop-less c =
-    let l = c .before .before .before .before .before .loop in
-    let pos : 0 < l .left = search needs in
-    omega (arith, size-rest (l .left) pos (l .inv .sweep .fits))
+    ∙ sym (says-unbalanced (b .pre) (l .inv) pos (a .result) (q .result) (o .result) (a .ensures) (q .ensures) (o .ensures)
+    (b .args .k) some (o .ok))
 
 loop-again : tie.Need-loop-again Inv-loop μ-loop
 loop-again c =
@@ -88,18 +65,18 @@ classify-triples-spec =
     Inv-loop
     μ-loop
     (λ c κs. search needs)
-    mul-row
-    element-copy-out-row
+    (λ c. omega (arith, row-index c))
+    row-index
     sub-left
     loop-holds
     (λ c κs. search needs)
     (λ c. search needs)
-    mul-odd-part
-    element-copy-out-odd-part
+    (λ c. omega (arith, c .lowest2 .ensures, lowest-lt _ (search needs) (c .before .before .loop .inv .sweep .fits)))
+    (λ c. omega (arith, c .lowest2 .ensures, lowest-lt _ (search needs) (c .before .before .loop .inv .sweep .fits)))
     (λ c κs. search needs)
     (λ c κs. search needs)
     returns
-    loop-less
+    (λ c. omega (arith, size-rest _ (search needs) (c .before .before .before .before .before .loop .inv .sweep .fits)))
     loop-again
     classify-sides-requires
     returns-2)

@@ -20,24 +20,6 @@ abbrev μ-loop : tie.MeasureT-loop
 loop-holds : tie.Need-loop-holds Inv-loop μ-loop
 loop-holds c = joined-begin (c .args .rows .now) (c .args .s) (c .args .start) (c .fits .s .fits) (c .fits .start .fits)
 
-mul-part : tie.Need-mul-part Inv-loop μ-loop
-mul-part c =
-    let l = c .before .before .loop in
-    let pos : 0 < l .left = search needs in
-    omega (arith, c .lowest .ensures, lowest-lt (l .left) pos (l .inv .sweep .fits))
-
-element-copy-out-part : tie.Need-element-copy-out-part Inv-loop μ-loop
-element-copy-out-part c =
-    let l = c .before .before .loop in
-    let pos : 0 < l .left = search needs in
-    omega (arith, c .lowest .ensures, lowest-lt (l .left) pos (l .inv .sweep .fits))
-
-loop-less : tie.Need-loop-less Inv-loop μ-loop
-loop-less c =
-    let l = c .before .before .before .loop in
-    let pos : 0 < l .left = search needs in
-    omega (arith, size-rest (l .left) pos (l .inv .sweep .fits))
-
 loop-again : tie.Need-loop-again Inv-loop μ-loop
 loop-again c =
     let a = c .before .before .before .before .args in
@@ -50,7 +32,8 @@ returns : tie.Need-returns Inv-loop μ-loop
 returns c =
     let b = c .before .before in
     let l = c .before .loop in
-    joined-end (b .args .rows .now) (b .args .s) (b .args .start) (l .left) (l .part) (b .fits .s .fits) (b .fits .start .fits) (c .loop-test .left) (l .inv)
+    joined-end (b .args .rows .now) (b .args .s) (b .args .start) (l .left) (l .part) (b .fits .s .fits) (b .fits .start .fits)
+    (c .loop-test .left) (l .inv)
 
 pub common-spec : {M : Type 1} → statement M
 common-spec =
@@ -60,9 +43,9 @@ common-spec =
     μ-loop
     loop-holds
     (λ c κs. search needs)
-    mul-part
-    element-copy-out-part
+    (λ c. omega (arith, c .lowest .ensures, lowest-lt _ (search needs) (c .before .before .loop .inv .sweep .fits)))
+    (λ c. omega (arith, c .lowest .ensures, lowest-lt _ (search needs) (c .before .before .loop .inv .sweep .fits)))
     (λ c. search needs)
-    loop-less
+    (λ c. omega (arith, size-rest _ (search needs) (c .before .before .before .loop .inv .sweep .fits)))
     loop-again
     returns)

@@ -4,9 +4,10 @@ use native.Mathlib.Nat.{lt-of-le-of-lt}
 use mathlib.Core.Path.{_≡_, refl, sym, ap, _∙_}
 use mathlib.Core.Bool.{Bool, true, false, not, _&&_, Bool·beq}
 use borrow.Author.Needs.{needs}
-use lib.Bits.{bitAnd, bitXor, and-le-l, xor-lt}
+use lib.Bits.{bitXor, and-le-l, xor-lt}
 use Rattle.vertex_set.specs.Sets.{mem}
-use Rattle.vertex_set.proofs.Membership.{mem-and, mem-minus, mem-xor, collect-is}
+use Rattle.vertex_set.proofs.Membership.{mem-and, mem-minus, mem-xor}
+use Rattle.vertex_set.proofs.Collections.{collect-is}
 use Rattle.clique.specs.Verdicts.{oneOrThree}
 use Rattle.clique.specs.Stages.{oddPart}
 use Rattle.clique.proofs.Verdicts.{odd-parity}
@@ -39,16 +40,19 @@ returns c =
     let v = b .args in
     let x = bitXor (v .a) (v .b) in
     let x64 = xor-lt 64 (v .a) (v .b) (b .fits .a .fits) (b .fits .b .fits) in
-    collect-is 64 _ (λ (r : ℕ). mem r (v .s) && oneOrThree (mem (v .q) (v .a)) (mem r (v .a)) (mem r (v .b))) (lt-of-le-of-lt (and-le-l (v .s) _) (b .fits .s .fits))
+    collect-is 64 _ (λ (r : ℕ). mem r (v .s) && oneOrThree (mem (v .q) (v .a)) (mem r (v .a)) (mem r (v .b)))
+    (lt-of-le-of-lt (and-le-l (v .s) _) (b .fits .s .fits))
     (λ r _. mem-minus 64 r (v .s) x (b .fits .s .fits) x64 ∙ ap (λ (t : Bool). mem r (v .s) && not t) (mem-xor r (v .a) (v .b))
-    ∙ ap (λ (t : Bool). mem r (v .s) && t) (both (mem (v .q) (v .a)) (mem r (v .a)) (mem r (v .b)) (sym (c .before .contains .ensures) ∙ c .if1 .taken)))
+    ∙ ap (λ (t : Bool). mem r (v .s) && t)
+    (both (mem (v .q) (v .a)) (mem r (v .a)) (mem r (v .b)) (sym (c .before .contains .ensures) ∙ c .if1 .taken)))
 
 returns-2 : tie.Need-returns-2
 unfolding oddPart
 returns-2 c =
     let b = c .before .before in
     let v = b .args in
-    collect-is 64 _ (λ (r : ℕ). mem r (v .s) && oneOrThree (mem (v .q) (v .a)) (mem r (v .a)) (mem r (v .b))) (lt-of-le-of-lt (and-le-l (v .s) _) (b .fits .s .fits))
+    collect-is 64 _ (λ (r : ℕ). mem r (v .s) && oneOrThree (mem (v .q) (v .a)) (mem r (v .a)) (mem r (v .b)))
+    (lt-of-le-of-lt (and-le-l (v .s) _) (b .fits .s .fits))
     (λ r _. mem-and r (v .s) (bitXor (v .a) (v .b)) ∙ ap (λ (t : Bool). mem r (v .s) && t) (mem-xor r (v .a) (v .b)
     ∙ one (mem (v .q) (v .a)) (mem r (v .a)) (mem r (v .b)) (sym (c .before .contains .ensures) ∙ c .if1 .left)))
 

@@ -1,7 +1,7 @@
 -- `signed_graph::disjoint_tables` meets its contract. The rows below p have no common member. Assumes nothing.
-use mathlib.Core.Path.{_≡_, refl, sym, ap, _∙_}
+use mathlib.Core.Path.{_≡_, refl, sym}
 use mathlib.Core.Bool.{true}
-use Prim.Native.Nat.{ℕ, _-_, _≤_, _<_}
+use Prim.Native.Nat.{ℕ, _-_, _≤_}
 use native.Mathlib.Omega.{arith}
 use borrow.Author.Needs.{needs}
 use borrow.Author.Tests.{eq-eqb, ne-eqb}
@@ -29,20 +29,25 @@ unfolding disjointTables
 returns c =
     let a = c .before .before .before .before .before .args in
     let l = c .before .before .before .before .loop in
-    sym (all-fails (λ (q : ℕ). eqb (bitAnd (getD (a .a .now) q 0) (getD (a .b .now) q 0)) 0) 64 (l .p) (search needs) (ne-eqb _ 0 (c .if1 .taken)))
+    sym (all-fails (λ (q : ℕ). eqb (bitAnd (getD (a .a .now) q 0) (getD (a .b .now) q 0)) 0) 64 (l .p) (search needs)
+    (ne-eqb _ 0 (c .if1 .taken)))
 
 loop-again : tie.Need-loop-again Inv-loop μ-loop
 loop-again c =
     let a = c .before .before .before .before .before .args in
-    let l = c .before .before .before .before .loop in
-    (omega arith, all-more (λ (q : ℕ). eqb (bitAnd (getD (a .a .now) q 0) (getD (a .b .now) q 0)) 0) (l .p) (l .inv .1) (eq-eqb _ 0 (c .if1 .left)))
+    let l = c .before .before .before .before .loop in (
+      omega arith,
+      all-more (λ (q : ℕ). eqb (bitAnd (getD (a .a .now) q 0) (getD (a .b .now) q 0)) 0) (l .p) (l .inv .1)
+          (eq-eqb _ 0 (c .if1 .left)),
+    )
 
 returns-2 : tie.Need-returns-2 Inv-loop μ-loop
 unfolding disjointTables
 returns-2 c =
     let a = c .before .before .args in
     let l = c .before .loop in
-    sym (all-end (λ (q : ℕ). eqb (bitAnd (getD (a .a .now) q 0) (getD (a .b .now) q 0)) 0) 64 (l .p) (l .inv .0) (c .loop-test .left) (l .inv .1))
+    sym (all-end (λ (q : ℕ). eqb (bitAnd (getD (a .a .now) q 0) (getD (a .b .now) q 0)) 0) 64 (l .p) (l .inv .0) (c .loop-test .left)
+    (l .inv .1))
 
 pub disjoint-tables-spec : {M : Type 1} → statement M
 disjoint-tables-spec =

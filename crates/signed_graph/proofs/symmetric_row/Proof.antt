@@ -1,5 +1,5 @@
 -- `signed_graph::symmetric_row` meets its contract. The members that are not left have p in their rows. Assumes nothing.
-use mathlib.Core.Path.{_≡_, sym, ap, _∙_, subst}
+use mathlib.Core.Path.{_≡_, sym, ap, _∙_}
 use mathlib.Core.Bool.{true, false}
 use Prim.Native.Nat.{ℕ, _<_}
 use native.Mathlib.Omega.{arith}
@@ -21,33 +21,16 @@ abbrev μ-loop : tie.MeasureT-loop
 loop-holds : tie.Need-loop-holds Inv-loop μ-loop
 loop-holds c = seen-start (c .args .rows .now) (c .args .row) (c .args .p) (c .fits .row .fits)
 
-mul-contains : tie.Need-mul-contains Inv-loop μ-loop
-mul-contains c =
-    let l = c .before .before .loop in
-    let pos : 0 < l .left = search needs in
-    omega (arith, c .lowest .ensures, lowest-lt (l .left) pos (l .inv .fits))
-
-element-copy-out-contains : tie.Need-element-copy-out-contains Inv-loop μ-loop
-element-copy-out-contains c =
-    let l = c .before .before .loop in
-    let pos : 0 < l .left = search needs in
-    omega (arith, c .lowest .ensures, lowest-lt (l .left) pos (l .inv .fits))
-
 returns : tie.Need-returns Inv-loop μ-loop
 returns c =
     let l = c .before .before .before .before .before .loop in
     let a = c .before .before .before .before .before .before .args in
     let pos : 0 < l .left = search needs in
     let out : mem (a .p) (getD (a .rows .now) (lowest (l .left)) 0) ≡ false =
-    ap (λ (z : ℕ). mem (a .p) (getD (a .rows .now) z 0)) (sym (c .before .before .before .lowest .ensures)) ∙ sym (c .before .contains .ensures)
+    ap (λ (z : ℕ). mem (a .p) (getD (a .rows .now) z 0)) (sym (c .before .before .before .lowest .ensures))
+    ∙ sym (c .before .contains .ensures)
     ∙ not-true (c .before .contains .result) (c .if1 .taken) in
     sym (seen-fails pos (l .inv) out)
-
-loop-less : tie.Need-loop-less Inv-loop μ-loop
-loop-less c =
-    let l = c .before .before .before .before .before .loop in
-    let pos : 0 < l .left = search needs in
-    omega (arith, size-rest (l .left) pos (l .inv .fits))
 
 loop-again : tie.Need-loop-again Inv-loop μ-loop
 loop-again c =
@@ -55,7 +38,8 @@ loop-again c =
     let a = c .before .before .before .before .before .before .args in
     let pos : 0 < l .left = search needs in
     let inn : mem (a .p) (getD (a .rows .now) (lowest (l .left)) 0) ≡ true =
-    ap (λ (z : ℕ). mem (a .p) (getD (a .rows .now) z 0)) (sym (c .before .before .before .lowest .ensures)) ∙ sym (c .before .contains .ensures)
+    ap (λ (z : ℕ). mem (a .p) (getD (a .rows .now) z 0)) (sym (c .before .before .before .lowest .ensures))
+    ∙ sym (c .before .contains .ensures)
     ∙ not-false (c .before .contains .result) (c .if1 .left) in
     seen-next pos (l .inv) inn
 
@@ -72,11 +56,11 @@ symmetric-row-spec =
     μ-loop
     loop-holds
     (λ c κs. search needs)
-    mul-contains
-    element-copy-out-contains
+    (λ c. omega (arith, c .lowest .ensures, lowest-lt _ (search needs) (c .before .before .loop .inv .fits)))
+    (λ c. omega (arith, c .lowest .ensures, lowest-lt _ (search needs) (c .before .before .loop .inv .fits)))
     (λ c κs. search needs)
     returns
     (λ c. search needs)
-    loop-less
+    (λ c. omega (arith, size-rest _ (search needs) (c .before .before .before .before .before .loop .inv .fits)))
     loop-again
     returns-2)

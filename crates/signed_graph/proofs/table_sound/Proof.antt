@@ -1,7 +1,7 @@
 -- `signed_graph::table_sound` meets its contract. The rows below p are sound. Assumes nothing.
-use mathlib.Core.Path.{_≡_, refl, sym, ap, _∙_}
+use mathlib.Core.Path.{_≡_, refl, sym, _∙_}
 use mathlib.Core.Bool.{true}
-use Prim.Native.Nat.{ℕ, _-_, _≤_, _<_}
+use Prim.Native.Nat.{ℕ, _-_, _≤_}
 use native.Mathlib.Omega.{arith}
 use borrow.Author.Needs.{needs}
 use borrow.Author.Tests.{not-true, not-false}
@@ -46,7 +46,8 @@ unfolding tableSound
 returns-2 c =
     let a = c .before .before .args in
     let l = c .before .loop in
-    sym (all-end (λ (q : ℕ). rowSound (a .rows .now) (a .top) (getD (a .rows .now) q 0) q) 64 (l .p) (l .inv .0) (c .loop-test .left) (l .inv .1))
+    sym (all-end (λ (q : ℕ). rowSound (a .rows .now) (a .top) (getD (a .rows .now) q 0) q) 64 (l .p) (l .inv .0) (c .loop-test .left)
+    (l .inv .1))
 
 pub table-sound-spec : {M : Type 1} → statement M
 table-sound-spec =

@@ -28,7 +28,8 @@ returns-3 c =
     let a = c .before .before .before .before .before .args in
     let t = c .before .before .before .before .table-sound in
     let u = c .before .before .table-sound2 in
-    let d : tableSound (a .positive .now) (a .top) ≡ true = sym (t .ensures) ∙ not-false (t .result) (c .before .before .before .if1 .left) in
+    let d : tableSound (a .positive .now) (a .top) ≡ true = sym (t .ensures) ∙ not-false (t .result)
+    (c .before .before .before .if1 .left) in
     let e : tableSound (a .negative .now) (a .top) ≡ true = sym (u .ensures) ∙ not-false (u .result) (c .before .if2 .left) in
     simp (d, e) (c .disjoint-tables .ensures)
 
