@@ -12,7 +12,7 @@ use lib.Pow.{pow-mono}
 use borrow.Author.Tests.{ltb-true, eqb-true, eq-eqb, ne-eqb, not-true}
 use Rattle.vertex_set.specs.Ranges.{all}
 use Rattle.vertex_set.specs.Sets.{mem, Subset, collect, lowest}
-use Rattle.vertex_set.proofs.Booleans.{clash, cases, and-intro, and-left, and-right, fails-left, fails-right, or-left, or-right, or-cases, neither-left, neither-right, imp-intro, imp-elim, beq-eq, eq-beq, beq-ne, ne-beq}
+use Rattle.vertex_set.proofs.Booleans.{clash, cases, and-intro, and-left, and-right, fails-left, fails-right, or-left, or-right, or-cases, neither-left, neither-right, imp-intro, imp-elim, beq-eq, eq-beq, beq-ne, ne-beq, beq-true, beq-false, beq-comm, beq-nots}
 use Rattle.vertex_set.proofs.Ranges.{all-at, all-of}
 use Rattle.vertex_set.proofs.Membership.{mem-lt, mem-pos, mem-and, mem-ext, lt-of-members, subset-and, and-subset}
 use Rattle.vertex_set.proofs.Collections.{mem-part, collect-lt}
@@ -53,14 +53,8 @@ module _ (g : SignedGraph) (side : ℕ → Bool) (p q : ℕ) where
       ap (λ (b : Bool). cond b (positiveEdge g p q) (negativeEdge g p q)) (ap₂ Bool·beq ep eq ∙ turn c (side p) (side q)) ∙ e
     where
       turn : (c x y : Bool) → Bool·beq (Bool·beq c x) (Bool·beq c y) ≡ Bool·beq x y
-      turn true true true = refl
-      turn true true false = refl
-      turn true false true = refl
-      turn true false false = refl
-      turn false true true = refl
-      turn false true false = refl
-      turn false false true = refl
-      turn false false false = refl
+      turn true x y = ap₂ Bool·beq (beq-true x) (beq-true y)
+      turn false x y = ap₂ Bool·beq (beq-false x) (beq-false y) ∙ beq-nots x y
 
 -- every two vertices of s are joined as their sides ask
 abbrev pub Agreeing : SignedGraph → (ℕ → Bool) → ℕ → Type 0
@@ -226,12 +220,6 @@ module _ (g : SignedGraph) (so : Sound g) where
   agrees-comm side p q =
       ap₂ (λ (x y : Bool). cond (Bool·beq (side p) (side q)) x y) (so .positives .symmetric p q) (so .negatives .symmetric p q)
       ∙ ap (λ (b : Bool). cond b (positiveEdge g q p) (negativeEdge g q p)) (beq-comm (side p) (side q))
-    where
-      beq-comm : (x y : Bool) → Bool·beq x y ≡ Bool·beq y x
-      beq-comm true true = refl
-      beq-comm true false = refl
-      beq-comm false true = refl
-      beq-comm false false = refl
 
   pub record Passes (s : ℕ) : Type 0 where
     pub usable : Subset s (vertices g)
@@ -307,11 +295,7 @@ module _ (g : SignedGraph) (so : Sound g) where
     told p m =
         let pos : 0 < s = mem-pos p s m in
         side-told (λ p. mem p l) s (split-agrees s l r (h .split)) (lowest s) p (lowest-in s pos s64) m
-        ∙ ap (λ (b : Bool). Bool·beq b (mem p l)) (h .lowest-left pos) ∙ true-beq (mem p l)
-      where
-        true-beq : (b : Bool) → Bool·beq true b ≡ b
-        true-beq true = refl
-        true-beq false = refl
+        ∙ ap (λ (b : Bool). Bool·beq b (mem p l)) (h .lowest-left pos) ∙ beq-true (mem p l)
 
     pub is-left : l ≡ left g s
     unfolding left

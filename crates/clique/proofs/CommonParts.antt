@@ -1,7 +1,7 @@
 -- What the rows of all members of a set have in common, row by row. Assumes nothing.
 use Prim.Native.Nat.{ℕ, _^_, _<_}
 use native.Mathlib.Nat.{lt-of-le-of-lt}
-use mathlib.Core.Path.{_≡_, refl, sym, ap, ap₂, _∙_}
+use mathlib.Core.Path.{_≡_, refl, sym, ap, ap₂, _∙_, subst}
 use mathlib.Core.Bool.{Bool, true, false, not, _&&_, _||_}
 use mathlib.Core.List.{List}
 use lib.Dec.{eqb}
@@ -67,10 +67,10 @@ joined-begin rows s start h k =
       every = λ q m f. m;
     }
 
-pub joined-step : (rows : List ℕ) {s start left part : ℕ} → 0 < left → Joined rows s start left part
-    → Joined rows s start (rest left) (bitAnd part (getD rows (lowest left) 0))
-joined-step rows {s} {start} {left} {part} pos d =
-    record {
+pub joined-step : (rows : List ℕ) {s start left part : ℕ} → 0 < left → Joined rows s start left part → (q : ℕ) → q ≡ lowest left
+    → Joined rows s start (rest left) (bitAnd part (getD rows q 0))
+joined-step rows {s} {start} {left} {part} pos d p e =
+    subst (λ (z : ℕ). Joined rows s start (rest left) (bitAnd part (getD rows z 0))) (sym e) (record {
       sweep = sweep-step (d .sweep) pos;
       fits = lt-of-le-of-lt (and-le-l part row) (d .fits);
       first = λ q m. d .first q (had q m);
@@ -82,7 +82,7 @@ joined-step rows {s} {start} {left} {part} pos d =
           mem-and q part row
           ∙ and-intro (mem q part) (mem q row) (d .every q m (λ r i o. f r i (rest-out r o)))
           (f (lowest left) (sweep-here (d .sweep) pos) (mem-rest left pos (d .sweep .fits) (lowest left) ∙ off));
-    }
+    })
   where
     row : ℕ
     row = getD rows (lowest left) 0

@@ -8,7 +8,7 @@ use mathlib.Core.Bool.{Bool, true, false, not, _&&_, _||_, Bool·beq, Bool·not-
 use lib.Dec.{leb, ltb, eqb}
 use borrow.Author.Tests.{ltb-false, lt-leb, le-leb, le-ltb, lt-ltb, eq-eqb, ne-eqb, eqb-false, not-false}
 use Rattle.vertex_set.specs.Sets.{mem, Subset, size, lowest}
-use Rattle.vertex_set.proofs.Booleans.{clash, cases, and-intro, and-left, and-right, and-other, fails-left, fails-right, beq-eq, eq-beq, beq-ne, ne-beq}
+use Rattle.vertex_set.proofs.Booleans.{clash, cases, and-intro, and-left, and-right, and-other, fails-left, fails-right, beq-eq, eq-beq, beq-ne, ne-beq, beq-true, beq-nots}
 use Rattle.vertex_set.proofs.Ranges.{seek-none, none-seek}
 use Rattle.vertex_set.proofs.Membership.{mem-lt, mem-pos}
 use Rattle.vertex_set.proofs.LowestVertex.{lowest-in, lowest-le}
@@ -143,25 +143,15 @@ module _ (g : SignedGraph) (so : Sound g) (s : ℕ) (u : Subset s (vertices g)) 
         ma : mem a s ≡ true
         ma = lowest-in s (mem-pos p s x) (usable-64 g so s u)
 
-        nots : (b c : Bool) → Bool·beq (not b) (not c) ≡ Bool·beq b c
-        nots true true = refl
-        nots true false = refl
-        nots false true = refl
-        nots false false = refl
-
-        true-beq : (b : Bool) → b ≡ Bool·beq true b
-        true-beq true = refl
-        true-beq false = refl
-
         go : Dec (p ≡ a) → positiveEdge g p q ≡ Bool·beq (sameSide g a p) (sameSide g a q)
         go (yes e) =
-            ap (λ (z : ℕ). positiveEdge g z q) e ∙ sym (side-other g a q (omega arith)) ∙ true-beq (sameSide g a q)
+            ap (λ (z : ℕ). positiveEdge g z q) e ∙ sym (side-other g a q (omega arith)) ∙ sym (beq-true (sameSide g a q))
             ∙ ap (λ (b : Bool). Bool·beq b (sameSide g a q)) (sym (ap (sameSide g a) e ∙ side-self g a))
         go (no d) =
             let ap-lt : a < p = omega (arith, lowest-le s p x) in
             let aq-lt : a < q = omega arith in
             sign p q l x y ∙ ap not (even-negative g s a p q (even a p q ap-lt l (usable-lt g so s u q y)) ma x y)
-            ∙ Bool·not-not (Bool·beq (negativeEdge g a p) (negativeEdge g a q)) ∙ sym (nots (negativeEdge g a p) (negativeEdge g a q))
+            ∙ Bool·not-not (Bool·beq (negativeEdge g a p) (negativeEdge g a q)) ∙ sym (beq-nots (negativeEdge g a p) (negativeEdge g a q))
             ∙ ap₂ Bool·beq (sym (side-other g a p d ∙ sign a p ap-lt ma x)) (sym (side-other g a q (omega arith) ∙ sign a q aq-lt ma y))
 
     up : (p q : ℕ) → p < q → mem p s ≡ true → mem q s ≡ true → agrees g (sameSide g a) p q ≡ true

@@ -16,12 +16,8 @@ symmetricRow rows row p = all 64 (λ q. not (mem q row) || mem p (getD rows q 0)
 unfoldable pub rowSound : List ℕ → ℕ → ℕ → ℕ → Bool
 rowSound rows top row p = leb row top && not (mem p row) && symmetricRow rows row p
 
-unfoldable pub tableSound : List ℕ → ℕ → Bool
-tableSound rows top = all 64 (λ p. rowSound rows top (getD rows p 0) p)
-
-unfoldable pub disjointTables : List ℕ → List ℕ → Bool
-disjointTables a b = all 64 (λ p. eqb (bitAnd (getD a p 0) (getD b p 0)) 0)
-
--- both tables are sound, and disjoint
-abbrev pub tablesSound : List ℕ → List ℕ → ℕ → Bool
-tablesSound a b top = tableSound a top && tableSound b top && disjointTables a b
+-- the rows of p in both tables are sound and share no partner
+unfoldable pub rowsSound : List ℕ → List ℕ → ℕ → ℕ → Bool
+rowsSound positive negative top p =
+    eqb (bitAnd (getD positive p 0) (getD negative p 0)) 0 && rowSound positive top (getD positive p 0) p
+    && rowSound negative top (getD negative p 0) p

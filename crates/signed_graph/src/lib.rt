@@ -1,9 +1,10 @@
 // Graphs of at most 64 vertices whose edges are positive or negative, when one is sound, and the check that calls on a graph share.
 ghost use mathlib.Core.Path.{_≡_};
 ghost use Prim.Native.Nat.{_<_};
+ghost use Rattle.vertex_set.specs.Ranges.{all};
 ghost use Rattle.signed_graph.specs.Graphs.{edgeless};
 ghost use Rattle.signed_graph.specs.Soundness.{sound};
-ghost use Rattle.signed_graph.specs.Rows.{symmetricRow, rowSound, tableSound, disjointTables, tablesSound};
+ghost use Rattle.signed_graph.specs.Rows.{symmetricRow, rowSound, rowsSound};
 ghost use Rattle.signed_graph.specs.Calls.{checkOf, numberOf, refusalNumber};
 
 pub const MOST_VERTICES: u64 = 64;
@@ -79,45 +80,34 @@ fn row_sound(rows: &[u64; 64], top: u64, row: u64, p: usize) -> bool
     symmetric_row(rows, row, p)
 }
 
-// Whether every row of a table is sound.
-fn table_sound(rows: &[u64; 64], top: u64) -> bool
-    ensures { λ r. ⌜ r ≡ tableSound (now (rows .entry)) top ⌝ }
+// Whether p's rows in both tables are sound and share no partner.
+fn rows_sound<'a>(positive: &'a [u64; 64], negative: &'a [u64; 64], top: u64, p: usize) -> bool
+    requires { ⌜ p < 64 ⌝ }
+    ensures { λ r. ⌜ r ≡ rowsSound (now (positive .entry)) (now (negative .entry)) top p ⌝ }
 {
-    let mut p: usize = 0;
-    while p < 64 {
-        if !row_sound(rows, top, rows[p], p) {
-            return false;
-        }
-        p += 1;
+    let a = positive[p];
+    let b = negative[p];
+    if a & b != 0 {
+        return false;
     }
-    true
+    if !row_sound(positive, top, a, p) {
+        return false;
+    }
+    row_sound(negative, top, b, p)
 }
 
-// Whether no row has a vertex in both tables.
-fn disjoint_tables<'a>(a: &'a [u64; 64], b: &'a [u64; 64]) -> bool
-    ensures { λ r. ⌜ r ≡ disjointTables (now (a .entry)) (now (b .entry)) ⌝ }
-{
-    let mut p: usize = 0;
-    while p < 64 {
-        if a[p] & b[p] != 0 {
-            return false;
-        }
-        p += 1;
-    }
-    true
-}
-
-// Whether both tables are sound, and disjoint.
+// Whether the rows of every vertex are sound.
 fn tables_sound<'a>(positive: &'a [u64; 64], negative: &'a [u64; 64], top: u64) -> bool
-    ensures { λ r. ⌜ r ≡ tablesSound (now (positive .entry)) (now (negative .entry)) top ⌝ }
+    ensures { λ r. ⌜ r ≡ all 64 (rowsSound (now (positive .entry)) (now (negative .entry)) top) ⌝ }
 {
-    if !table_sound(positive, top) {
-        return false;
+    let mut p: usize = 0;
+    while p < 64 {
+        if !rows_sound(positive, negative, top, p) {
+            return false;
+        }
+        p += 1;
     }
-    if !table_sound(negative, top) {
-        return false;
-    }
-    disjoint_tables(positive, negative)
+    true
 }
 
 // Whether the graph is sound.

@@ -1,8 +1,8 @@
 -- Laws of tests: what follows from `b ≡ true` and `b ≡ false`. Assumes nothing.
 use Prim.Native.Nat.{ℕ}
 use native.Mathlib.Omega.{arith}
-use mathlib.Core.Path.{_≡_, refl, sym, ap, ap₂}
-use mathlib.Core.Bool.{Bool, true, false, not, _&&_, _||_, Bool·beq}
+use mathlib.Core.Path.{_≡_, refl, sym, ap, ap₂, _∙_}
+use mathlib.Core.Bool.{Bool, true, false, not, _&&_, _||_, Bool·beq, Bool·not-not}
 
 -- no test both passes and fails
 pub clash : {A : Type 0} (b : Bool) → b ≡ true → b ≡ false → A
@@ -95,3 +95,24 @@ beq-ne false false e = clash true refl e
 pub ne-beq : (a b : Bool) → a ≡ not b → Bool·beq a b ≡ false
 ne-beq a true e = ap (λ (x : Bool). Bool·beq x true) e
 ne-beq a false e = ap (λ (x : Bool). Bool·beq x false) e
+
+pub beq-true : (b : Bool) → Bool·beq true b ≡ b
+beq-true true = refl
+beq-true false = refl
+
+pub beq-false : (b : Bool) → Bool·beq false b ≡ not b
+beq-false true = refl
+beq-false false = refl
+
+pub beq-comm : (a b : Bool) → Bool·beq a b ≡ Bool·beq b a
+beq-comm true true = refl
+beq-comm true false = refl
+beq-comm false true = refl
+beq-comm false false = refl
+
+pub beq-not : (a b : Bool) → Bool·beq (not a) b ≡ not (Bool·beq a b)
+beq-not true b = beq-false b ∙ ap not (sym (beq-true b))
+beq-not false b = beq-true b ∙ sym (Bool·not-not b) ∙ ap not (sym (beq-false b))
+
+pub beq-nots : (a b : Bool) → Bool·beq (not a) (not b) ≡ Bool·beq a b
+beq-nots a b = beq-not a (not b) ∙ ap not (beq-comm a (not b) ∙ beq-not b a) ∙ Bool·not-not (Bool·beq b a) ∙ beq-comm b a

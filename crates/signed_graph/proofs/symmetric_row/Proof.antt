@@ -1,12 +1,9 @@
 -- `signed_graph::symmetric_row` meets its contract. The members that are not left have p in their rows. Assumes nothing.
-use mathlib.Core.Path.{_≡_, sym, ap, _∙_}
-use mathlib.Core.Bool.{true, false}
-use Prim.Native.Nat.{ℕ, _<_}
+use mathlib.Core.Path.{sym, _∙_}
 use native.Mathlib.Omega.{arith}
 use borrow.Author.Needs.{needs}
 use borrow.Author.Tests.{not-true, not-false}
-use lib.ListN.{getD}
-use Rattle.vertex_set.specs.Sets.{mem, size, lowest}
+use Rattle.vertex_set.specs.Sets.{size, lowest}
 use Rattle.vertex_set.proofs.LowestVertex.{lowest-lt, size-rest}
 use Rattle.signed_graph.proofs.RowChecks.{Seen, seen-start, seen-next, seen-fails, seen-end}
 use Rattle.signed_graph.proofs.symmetric_row.Statement.{statement}
@@ -24,24 +21,16 @@ loop-holds c = seen-start (c .args .rows .now) (c .args .row) (c .args .p) (c .f
 returns : tie.Need-returns Inv-loop μ-loop
 returns c =
     let l = c .before .before .before .before .before .loop in
-    let a = c .before .before .before .before .before .before .args in
-    let pos : 0 < l .left = search needs in
-    let out : mem (a .p) (getD (a .rows .now) (lowest (l .left)) 0) ≡ false =
-    ap (λ (z : ℕ). mem (a .p) (getD (a .rows .now) z 0)) (sym (c .before .before .before .lowest .ensures))
-    ∙ sym (c .before .contains .ensures)
-    ∙ not-true (c .before .contains .result) (c .if1 .taken) in
-    sym (seen-fails pos (l .inv) out)
+    let q = c .before .before .before .lowest in
+    let has = c .before .contains in
+    sym (seen-fails (search needs) (l .inv) (q .result) (q .ensures) (sym (has .ensures) ∙ not-true (has .result) (c .if1 .taken)))
 
 loop-again : tie.Need-loop-again Inv-loop μ-loop
 loop-again c =
     let l = c .before .before .before .before .before .loop in
-    let a = c .before .before .before .before .before .before .args in
-    let pos : 0 < l .left = search needs in
-    let inn : mem (a .p) (getD (a .rows .now) (lowest (l .left)) 0) ≡ true =
-    ap (λ (z : ℕ). mem (a .p) (getD (a .rows .now) z 0)) (sym (c .before .before .before .lowest .ensures))
-    ∙ sym (c .before .contains .ensures)
-    ∙ not-false (c .before .contains .result) (c .if1 .left) in
-    seen-next pos (l .inv) inn
+    let q = c .before .before .before .lowest in
+    let has = c .before .contains in
+    seen-next (search needs) (l .inv) (q .result) (q .ensures) (sym (has .ensures) ∙ not-false (has .result) (c .if1 .left))
 
 returns-2 : tie.Need-returns-2 Inv-loop μ-loop
 returns-2 c =

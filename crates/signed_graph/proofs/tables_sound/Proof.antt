@@ -1,38 +1,50 @@
--- `signed_graph::tables_sound` meets its contract. Each test is one of the definition's. Assumes nothing.
-use mathlib.Core.Path.{_≡_, sym, _∙_}
-use mathlib.Core.Bool.{true, false}
+-- `signed_graph::tables_sound` meets its contract. The rows of the vertices below p are sound. Assumes nothing.
+use mathlib.Core.Path.{_≡_, refl, sym, _∙_}
+use mathlib.Core.Bool.{true}
+use Prim.Native.Nat.{_-_, _≤_}
+use native.Mathlib.Omega.{arith}
 use borrow.Author.Needs.{needs}
 use borrow.Author.Tests.{not-true, not-false}
-use Rattle.signed_graph.specs.Rows.{tableSound}
+use Rattle.vertex_set.specs.Ranges.{all}
+use Rattle.vertex_set.proofs.Ranges.{all-more, all-end, all-fails}
+use Rattle.signed_graph.specs.Rows.{rowsSound}
 use Rattle.signed_graph.proofs.tables_sound.Statement.{statement}
 use Rattle.signed_graph.proofs.tables_sound.Tie as tie
 
-returns : tie.Need-returns
+abbrev Inv-loop : tie.InvT-loop
+Inv-loop positive negative top p₀ p = (p ≤ 64) × (all p (rowsSound positive negative top) ≡ true)
+
+abbrev μ-loop : tie.MeasureT-loop
+μ-loop positive negative top p₀ p = 64 - p
+
+loop-holds : tie.Need-loop-holds Inv-loop μ-loop
+unfolding all
+loop-holds c = (omega arith, refl)
+
+returns : tie.Need-returns Inv-loop μ-loop
 returns c =
-    let a = c .before .before .args in
-    let t = c .before .table-sound in
-    let e : tableSound (a .positive .now) (a .top) ≡ false = sym (t .ensures) ∙ not-true (t .result) (c .if1 .taken) in
-    simp e
+    let s = c .before .rows-sound in
+    sym (all-fails _ 64 (c .before .before .before .loop .p) (search needs) (sym (s .ensures) ∙ not-true (s .result) (c .if1 .taken)))
 
-returns-2 : tie.Need-returns-2
-returns-2 c =
-    let a = c .before .before .before .before .args in
-    let t = c .before .before .before .table-sound in
-    let u = c .before .table-sound2 in
-    let d : tableSound (a .positive .now) (a .top) ≡ true = sym (t .ensures) ∙ not-false (t .result) (c .before .before .if1 .left) in
-    let e : tableSound (a .negative .now) (a .top) ≡ false = sym (u .ensures) ∙ not-true (u .result) (c .if2 .taken) in
-    simp (d, e)
+loop-again : tie.Need-loop-again Inv-loop μ-loop
+loop-again c =
+    let s = c .before .rows-sound in
+    let l = c .before .before .before .loop in
+    (omega arith, all-more _ (l .p) (l .inv .1) (sym (s .ensures) ∙ not-false (s .result) (c .if1 .left)))
 
-returns-3 : tie.Need-returns-3
-returns-3 c =
-    let a = c .before .before .before .before .before .args in
-    let t = c .before .before .before .before .table-sound in
-    let u = c .before .before .table-sound2 in
-    let d : tableSound (a .positive .now) (a .top) ≡ true = sym (t .ensures) ∙ not-false (t .result)
-    (c .before .before .before .if1 .left) in
-    let e : tableSound (a .negative .now) (a .top) ≡ true = sym (u .ensures) ∙ not-false (u .result) (c .before .if2 .left) in
-    simp (d, e) (c .disjoint-tables .ensures)
+returns-2 : tie.Need-returns-2 Inv-loop μ-loop
+returns-2 c = let l = c .before .loop in sym (all-end _ 64 (l .p) (l .inv .0) (c .loop-test .left) (l .inv .1))
 
 pub tables-sound-spec : {M : Type 1} → statement M
 tables-sound-spec =
-    tie.close (tie.spec (λ c κs. search needs) returns (λ c κs. search needs) returns-2 (λ c κs. search needs) returns-3)
+    tie.close
+    (tie.spec
+    Inv-loop
+    μ-loop
+    loop-holds
+    (λ c κs. search needs)
+    returns
+    (λ c. omega arith)
+    (λ c. omega arith)
+    loop-again
+    returns-2)
