@@ -6,5 +6,8 @@ pub mod Verdicts
 mod Sweeps
 mod CommonParts
 mod Extension
-mod Stages
+mod OutOfRange
+mod MissingEdges
+mod OddTriples
+mod SideSizes
 pub mod Cases

@@ -1,5 +1,5 @@
 -- `clique::classify_edges` meets its contract. The members that are not left have an edge to every later one. Assumes nothing.
-use mathlib.Core.Path.{sym, ap, _∙_}
+use mathlib.Core.Path.{refl, sym, ap, _∙_}
 use Prim.Native.Nat.{_<_}
 use native.Mathlib.Omega.{arith}
 use borrow.Author.Needs.{needs}
@@ -8,7 +8,7 @@ use Rattle.vertex_set.proofs.LowestVertex.{lowest-lt, size-rest}
 use Rattle.clique.specs.declared.Verdict.the-variants.{MissingEdge}
 use Rattle.clique.specs.Verdicts.{lacksEdge}
 use Rattle.clique.proofs.Sweeps.{Run, run-begin}
-use Rattle.clique.proofs.Stages.{known-64, edges-step, edges-complete, says-missing, past-edges}
+use Rattle.clique.proofs.MissingEdges.{known-64, edges-step, edges-complete, says-missing, past-edges}
 use Rattle.clique.proofs.classify_edges.Statement.{statement}
 use Rattle.clique.proofs.classify_edges.Tie as tie
 
@@ -28,7 +28,7 @@ returns c =
     let p = c .before .before .before .before .lowest in
     let pos : 0 < l .left = search needs in
     ap (MissingEdge (p .result)) (c .lowest2 .ensures)
-    ∙ sym (says-missing (b .pre) (l .inv) pos (p .result) (p .ensures) (b .args .k) (search needs))
+    ∙ sym (says-missing (b .pre) (l .inv) pos (p .result) _ (p .ensures) refl (b .args .k) (search needs))
 
 loop-again : tie.Need-loop-again Inv-loop μ-loop
 loop-again c =
@@ -36,7 +36,7 @@ loop-again c =
     let l = c .before .before .before .before .before .loop in
     let p = c .before .before .before .lowest in
     let pos : 0 < l .left = search needs in
-    edges-step (b .pre) (l .inv) pos (p .result) (p .ensures) (c .if1 .left)
+    edges-step (b .pre) (l .inv) pos (p .result) _ (p .ensures) refl (c .if1 .left)
 
 classify-triples-requires : tie.Need-classify-triples-requires Inv-loop μ-loop
 classify-triples-requires c κs = edges-complete (c .before .before .pre) (c .loop-test .left) (c .before .loop .inv)

@@ -8,7 +8,8 @@ use Rattle.vertex_set.proofs.LowestVertex.{rest, lowest-lt, size-rest}
 use Rattle.clique.specs.declared.Verdict.the-variants.{Unbalanced}
 use Rattle.clique.specs.Verdicts.{oddTriple}
 use Rattle.clique.proofs.Sweeps.{Run}
-use Rattle.clique.proofs.Stages.{known-64, triples-begin, odds-step, says-unbalanced, triples-sided, past-triples}
+use Rattle.clique.proofs.MissingEdges.{known-64}
+use Rattle.clique.proofs.OddTriples.{triples-begin, odds-step, says-unbalanced, triples-sided, past-triples}
 use Rattle.clique.proofs.classify_triples.Statement.{statement}
 use Rattle.clique.proofs.classify_triples.Tie as tie
 
