@@ -60,7 +60,9 @@ pub record Verdicts : Type 0 where
   pub T9 : verdict sampleA 1 (set (0 ∷ 2 ∷ [])) ≡ Extensible 1
   pub T10 : verdict triangle 1 (set (0 ∷ 1 ∷ 2 ∷ [])) ≡ Unbalanced 0 1 2
   pub T11 : verdict sampleA 2 (set (0 ∷ 2 ∷ 4 ∷ [])) ≡ TooSmall 2 1
+  -- vertex 1 could be added, but the sizes come first
+  pub small-first : verdict sampleA 1 (set (0 ∷ [])) ≡ TooSmall 1 0
 
 pub cases-verdicts : Verdicts
 unfolding verdict firstOutside missingFirst missingSecond oddFirst oddSecond oddThird extension floor balanced allAgree left right vertices R.all R.count R.seek S.mem S.collect S.size S.lowest S.below
-cases-verdicts = record { T8 = refl; T9 = refl; T10 = refl; T11 = refl }
+cases-verdicts = record { T8 = refl; T9 = refl; T10 = refl; T11 = refl; small-first = refl }
