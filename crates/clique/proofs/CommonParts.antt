@@ -15,8 +15,8 @@ use Rattle.vertex_set.proofs.Ranges.{all-at, all-of}
 use Rattle.vertex_set.proofs.Membership.{mem-and, mem-none, mem-lt, mem-ext}
 use Rattle.vertex_set.proofs.Collections.{mem-part, collect-lt}
 use Rattle.vertex_set.proofs.LowestVertex.{lowest-in, rest, mem-rest}
+use Rattle.vertex_set.proofs.Sweeps.{Sweep, sweep-begin, sweep-step, sweep-here, gone}
 use Rattle.clique.specs.Stages.{commonPart}
-use Rattle.clique.proofs.Sweeps.{Sweep, sweep-begin, sweep-step, sweep-here, gone}
 
 -- ---- the members of the common part
 

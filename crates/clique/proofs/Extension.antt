@@ -13,7 +13,7 @@ use Rattle.vertex_set.proofs.Booleans.{clash, cases, iff, and-intro, and-left, 
 use Rattle.vertex_set.proofs.Ranges.{none-seek}
 use Rattle.vertex_set.proofs.Membership.{mem-and, mem-none, mem-lt, mem-minus, union-left, union-right, union-cases}
 use Rattle.vertex_set.proofs.Collections.{below-lt, mem-insert, insert-in, insert-keeps, insert-cases}
-use Rattle.vertex_set.proofs.LowestVertex.{lowest-in}
+use Rattle.vertex_set.proofs.LowestVertex.{lowest-in, seek-lowest}
 use Rattle.signed_graph.specs.declared.SignedGraph.{SignedGraph}
 use Rattle.signed_graph.specs.Graphs.{positiveEdge, negativeEdge, vertices}
 use Rattle.signed_graph.proofs.Soundness.{Sound, to-sound, mem-vertices}
@@ -23,7 +23,6 @@ use Rattle.clique.specs.Groups.{extension}
 use Rattle.clique.specs.Stages.{commonPart, joiningPart, fromExtension, Halved}
 use Rattle.clique.proofs.Balance.{left-lt, right-lt, usable-64, other-side, split-swap, split-part, split-balanced, balanced-words, words-balanced, balanced-sides, is-left, is-right}
 use Rattle.clique.proofs.Verdicts.{applies, passes-by}
-use Rattle.clique.proofs.Sweeps.{seek-lowest}
 use Rattle.clique.proofs.CommonParts.{common-lt, common-start, common-row, common-of}
 
 -- p can join the side l of a set with the sides l and r: it is positive to that side and negative to the other

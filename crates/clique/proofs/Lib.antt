@@ -3,7 +3,7 @@ pub mod Balance
 pub mod Order
 pub mod Groups
 pub mod Verdicts
-mod Sweeps
+mod FirstPairs
 mod CommonParts
 mod Extension
 mod OutOfRange

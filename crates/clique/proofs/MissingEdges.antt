@@ -14,16 +14,16 @@ use Rattle.vertex_set.specs.Sets.{mem, lowest}
 use Rattle.vertex_set.proofs.Booleans.{cases, and-intro, fails-left, fails-right}
 use Rattle.vertex_set.proofs.Membership.{mem-or, mem-minus}
 use Rattle.vertex_set.proofs.LowestVertex.{rest, rest-lt}
+use Rattle.vertex_set.proofs.Sweeps.{sweep-here, rest-above}
 use Rattle.signed_graph.specs.declared.SignedGraph.{SignedGraph}
 use Rattle.signed_graph.specs.Graphs.{edge}
 use Rattle.signed_graph.proofs.Soundness.{Table, Sound, to-sound}
 use Rattle.clique.specs.declared.Verdict.the-variants as Is
-use Rattle.clique.specs.Balance.{left}
 use Rattle.clique.specs.Verdicts.{lacksEdge, missingFirst, missingSecond}
 use Rattle.clique.specs.Stages.{fromTriples, fromEdges, Known, Complete}
 use Rattle.clique.proofs.Balance.{usable-lt, usable-64}
 use Rattle.clique.proofs.Verdicts.{applies, passes-by, none-missing}
-use Rattle.clique.proofs.Sweeps.{Run, run-step, run-end, first-is, second-is, sweep-here, rest-above}
+use Rattle.clique.proofs.FirstPairs.{Run, run-step, run-end, first-is, second-is}
 
 module _ {g : SignedGraph} {s : ℕ} (kn : Known g s) where
   known-sound : Sound g

@@ -12,15 +12,15 @@ use Rattle.vertex_set.proofs.Booleans.{clash, cases, and-intro, fails-left, fai
 use Rattle.vertex_set.proofs.Ranges.{seek-is, none-seek}
 use Rattle.vertex_set.proofs.Collections.{mem-part}
 use Rattle.vertex_set.proofs.LowestVertex.{lowest-in, lowest-le, lowest-least, rest, rest-lt}
+use Rattle.vertex_set.proofs.Sweeps.{sweep-here, sweep-begin, rest-above, above-rest}
 use Rattle.signed_graph.specs.declared.SignedGraph.{SignedGraph}
 use Rattle.signed_graph.specs.Graphs.{negativeEdge}
 use Rattle.signed_graph.proofs.Soundness.{to-sound}
 use Rattle.clique.specs.declared.Verdict.the-variants as Is
-use Rattle.clique.specs.Balance.{left}
 use Rattle.clique.specs.Verdicts.{oneOrThree, oddTriple, oddFirst, oddSecond, oddThird}
 use Rattle.clique.specs.Stages.{fromSides, fromTriples, Known, Complete, Sided, oddPart}
 use Rattle.clique.proofs.Verdicts.{applies, passes-by, missing-none, none-odd, even-negative, triple-even, even-balanced}
-use Rattle.clique.proofs.Sweeps.{Run, run-begin, run-step, run-end, first-is, second-is, sweep-here, sweep-begin, rest-above, above-rest}
+use Rattle.clique.proofs.FirstPairs.{Run, run-begin, run-step, run-end, first-is, second-is}
 use Rattle.clique.proofs.MissingEdges.{known-64, known-lt}
 
 pub mem-odd : (s a b q : ℕ) → s < 2 ^ 64 → (r : ℕ) → mem r (oddPart s a b q) ≡ (mem r s && oneOrThree (mem q a) (mem r a) (mem r b))
@@ -55,7 +55,7 @@ module _ {g : SignedGraph} {s : ℕ} (co : Complete g s) where
   odd-out-third : (p q r : ℕ) → mem r s ≡ false → oddTriple g s p q r ≡ false
   odd-out-third p q r m = fails-left (mem p s && mem q s && mem r s) _ (fails-right (mem p s && mem q s) (mem r s) m)
 
-  -- a vertex above the lowest that is not left of it is not in s
+  -- a vertex above the lowest that `rest s` lacks is not in s
   not-top : (q : ℕ) → suc a ≤ q → mem q (rest s) ≡ false → mem q s ≡ false
   not-top q l m = cases (mem q s ≡ false) (mem q s) (λ x. clash (mem q (rest s)) (above-top q x l) m) (λ x. x)
 

@@ -12,7 +12,7 @@ use Rattle.vertex_set.specs.Sets.{mem, lowest, below}
 use Rattle.vertex_set.proofs.Ranges.{none-seek}
 use Rattle.vertex_set.proofs.Membership.{mem-lt, mem-none, mem-minus}
 use Rattle.vertex_set.proofs.Collections.{below-lt, mem-below}
-use Rattle.vertex_set.proofs.LowestVertex.{lowest-lt}
+use Rattle.vertex_set.proofs.LowestVertex.{lowest-lt, seek-lowest}
 use Rattle.signed_graph.specs.declared.SignedGraph.{SignedGraph}
 use Rattle.signed_graph.specs.Soundness.{sound}
 use Rattle.signed_graph.proofs.Soundness.{Sound, to-sound}
@@ -20,7 +20,6 @@ use Rattle.clique.specs.declared.Verdict.the-variants as Is
 use Rattle.clique.specs.Verdicts.{verdict, firstOutside}
 use Rattle.clique.specs.Stages.{fromEdges, Known}
 use Rattle.clique.proofs.Verdicts.{applies, passes-by, inside}
-use Rattle.clique.proofs.Sweeps.{seek-lowest}
 
 module _ (g : SignedGraph) (ok : sound g ≡ true) (s b outside : ℕ) (s64 : s < 2 ^ 64) (e : b ≡ below (g .n))
     (eo : outside ≡ bitAnd s ((2 ^ 64 - 1) - b)) where

@@ -8,7 +8,7 @@ use lib.ListN.{getD}
 use lib.Bits.{bitAnd, bitOr, and-le-l}
 use Rattle.vertex_set.specs.Sets.{mem, size, lowest, single}
 use Rattle.vertex_set.proofs.Membership.{mem-and, mem-or, mem-minus}
-use Rattle.vertex_set.proofs.Collections.{mem-pow, mem-part, collect-is, collect-lt, single-pow}
+use Rattle.vertex_set.proofs.Collections.{mem-pow, mem-part, collect-is, single-pow}
 use Rattle.vertex_set.proofs.LowestVertex.{lowest-lt}
 use Rattle.signed_graph.specs.declared.SignedGraph.{SignedGraph}
 use Rattle.signed_graph.specs.Graphs.{positiveEdge}
@@ -16,6 +16,7 @@ use Rattle.clique.specs.declared.Verdict.the-variants as Is
 use Rattle.clique.specs.Balance.{sameSide, left, right}
 use Rattle.clique.specs.Groups.{floor}
 use Rattle.clique.specs.Stages.{fromExtension, fromSides, Sided, Halved}
+use Rattle.clique.proofs.Balance.{left-lt}
 use Rattle.clique.proofs.Verdicts.{applies, passes-by}
 use Rattle.clique.proofs.MissingEdges.{known-64}
 
@@ -43,7 +44,7 @@ module _ (g : SignedGraph) (s : ℕ) (h : s < 2 ^ 64) where
       ∙ ap (λ (b : Bool). mem q s && not b) (mem-part s (sameSide g a) h q) ∙ once (mem q s) (sameSide g a q))
     where
       l64 : l < 2 ^ 64
-      l64 = subst (λ (x : ℕ). x < 2 ^ 64) (sym e) (collect-lt (λ p. mem p s && sameSide g a p) 64)
+      l64 = subst (λ (x : ℕ). x < 2 ^ 64) (sym e) (left-lt g s)
 
       once : (x y : Bool) → (x && not (x && y)) ≡ (x && not y)
       once true y = refl

@@ -12,49 +12,40 @@ use lib.Pow.{pow-pos}
 use borrow.Author.Tests.{leb-true, eqb-true, le-leb, eq-eqb, not-true}
 use Rattle.vertex_set.specs.Ranges.{all}
 use Rattle.vertex_set.specs.Sets.{mem, lowest}
-use Rattle.vertex_set.proofs.Booleans.{clash, cases, iff, and-intro, and-left, and-right, and-other, fails-left, imp-intro, imp-elim}
+use Rattle.vertex_set.proofs.Booleans.{clash, cases, iff, and-intro, and-left, and-right, not-both, and-other, imp-intro, imp-elim}
 use Rattle.vertex_set.proofs.Ranges.{all-at, all-of, all-fails}
 use Rattle.vertex_set.proofs.Membership.{mem-none, mem-and, mem-ext}
-use Rattle.vertex_set.proofs.LowestVertex.{rest, rest-lt, mem-rest, lowest-lt, lowest-in}
+use Rattle.vertex_set.proofs.LowestVertex.{rest, lowest-lt}
+use Rattle.vertex_set.proofs.Sweeps.{Sweep, sweep-begin, sweep-here, sweep-step, gone}
 use Rattle.signed_graph.specs.declared.SignedGraph.{SignedGraph}
 use Rattle.signed_graph.specs.Graphs.{positiveEdge, negativeEdge}
-use Rattle.signed_graph.specs.Soundness.{sound, loopless, symmetric}
+use Rattle.signed_graph.specs.Soundness.{sound}
 use Rattle.signed_graph.specs.Rows.{symmetricRow, rowSound, rowsSound}
 use Rattle.signed_graph.proofs.Soundness.{Table, partner-below, to-table, Sound, to-sound, from-sound}
 
--- ---- the loop over the members of a row: those that are not in left have p in their rows
+-- ---- the loop over the members of a row: those that are not left have p in their rows
 
 pub record Seen (rows : List ℕ) (row p left : ℕ) : Type 0 where
-  pub fits : left < 2 ^ 64
-  pub within : (q : ℕ) → mem q left ≡ true → mem q row ≡ true
+  pub sweep : Sweep row left
   pub done : (q : ℕ) → mem q row ≡ true → mem q left ≡ false → mem p (getD rows q 0) ≡ true
 
 pub seen-start : (rows : List ℕ) (row p : ℕ) → row < 2 ^ 64 → Seen rows row p row
-seen-start rows row p h = record { fits = h; within = λ q m. m; done = λ q m o. clash (mem q row) m o }
+seen-start rows row p h = record { sweep = sweep-begin row h; done = λ q m o. clash (mem q row) m o }
 
 module _ {rows : List ℕ} {row p left : ℕ} (pos : 0 < left) (d : Seen rows row p left) (q : ℕ) (e : q ≡ lowest left) where
-  left-but : (r : ℕ) → mem r (rest left) ≡ (mem r left && not (eqb r q))
-  left-but r = mem-rest left pos (d .fits) r ∙ ap (λ (z : ℕ). mem r left && not (eqb r z)) (sym e)
-
   pub seen-next : mem p (getD rows q 0) ≡ true → Seen rows row p (rest left)
   seen-next t =
       record {
-        fits = rest-lt 64 left (d .fits);
-        within = λ r m. d .within r (and-left (mem r left) (not (eqb r q)) (sym (left-but r) ∙ m));
-        done = λ r m o. cases (mem p (getD rows r 0) ≡ true) (mem r left) (λ i. was r i o) (λ i. d .done r m i);
+        sweep = sweep-step (d .sweep) pos;
+        done = λ r m o. gone (d .sweep) pos r o (λ x. ap (λ (z : ℕ). mem p (getD rows z 0)) (x ∙ sym e) ∙ t) (d .done r m);
       }
-    where
-      was : (r : ℕ) → mem r left ≡ true → mem r (rest left) ≡ false → mem p (getD rows r 0) ≡ true
-      was r i o =
-          cases (mem p (getD rows r 0) ≡ true) (eqb r q)
-          (λ x. ap (λ (z : ℕ). mem p (getD rows z 0)) (eqb-true r q x) ∙ t)
-          (λ x. clash (mem r (rest left)) (left-but r ∙ ap₂ (λ (u v : Bool). u && not v) i x) o)
 
   pub seen-fails : mem p (getD rows q 0) ≡ false → symmetricRow rows row p ≡ false
   unfolding symmetricRow
   seen-fails f =
-      all-fails (λ r. not (mem r row) || mem p (getD rows r 0)) 64 q (subst (λ (z : ℕ). z < 64) (sym e) (lowest-lt left pos (d .fits)))
-      (ap₂ (λ (x y : Bool). not x || y) (d .within q (ap (λ (z : ℕ). mem z left) e ∙ lowest-in left pos (d .fits))) f)
+      all-fails (λ r. not (mem r row) || mem p (getD rows r 0)) 64 q
+      (subst (λ (z : ℕ). z < 64) (sym e) (lowest-lt left pos (d .sweep .fits)))
+      (ap₂ (λ (x y : Bool). not x || y) (ap (λ (z : ℕ). mem z row) e ∙ sweep-here (d .sweep) pos) f)
 
 pub seen-end : (rows : List ℕ) (row p left : ℕ) → left ≡ 0 → Seen rows row p left → symmetricRow rows row p ≡ true
 unfolding symmetricRow
@@ -109,9 +100,7 @@ module _ (g : SignedGraph) where
       mem-ext (g .n) (bitAnd (getD (g .positive) p 0) (getD (g .negative) p 0)) 0
       (lt-of-le-of-lt (and-le-l (getD (g .positive) p 0) (getD (g .negative) p 0)) (s .positives .low p)) (pow-pos (g .n)) (λ q l.
       mem-and q (getD (g .positive) p 0) (getD (g .negative) p 0)
-      ∙ cases ((positiveEdge g p q && negativeEdge g p q) ≡ false) (positiveEdge g p q)
-      (λ m. ap₂ (λ (x y : Bool). x && y) m (s .apart p q m)) (λ m. fails-left (positiveEdge g p q) (negativeEdge g p q) m)
-      ∙ sym (mem-none q))
+      ∙ not-both (positiveEdge g p q) (negativeEdge g p q) (s .apart p q) ∙ sym (mem-none q))
 
   module _ (wp : length (g .positive) ≡ 64) (wn : length (g .negative) ≡ 64) (small : g .n ≤ 64) (top : ℕ) (e : top ≡ 2 ^ g .n - 1) where
     abbrev none-shared : ℕ → Bool

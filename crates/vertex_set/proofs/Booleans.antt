@@ -39,6 +39,10 @@ pub fails-right : (a b : Bool) → b ≡ false → (a && b) ≡ false
 fails-right true b e = e
 fails-right false b e = refl
 
+pub not-both : (a b : Bool) → (a ≡ true → b ≡ false) → (a && b) ≡ false
+not-both true b h = h refl
+not-both false b h = refl
+
 pub and-other : (a b : Bool) → (a && b) ≡ false → a ≡ true → b ≡ false
 and-other true b e h = e
 and-other false b e h = clash false h refl

@@ -4,3 +4,4 @@ pub mod Membership
 pub mod Collections
 pub mod Sizes
 pub mod LowestVertex
+pub mod Sweeps

@@ -14,8 +14,8 @@ use lib.Bits.{bitAnd, and-shr, and-self, and-le-l}
 use lib.Count.{trailingZeros, under}
 use Rattle.vertex_set.specs.Ranges.{seek}
 use Rattle.vertex_set.specs.Sets.{mem, size, lowest}
-use Rattle.vertex_set.proofs.Booleans.{clash}
-use Rattle.vertex_set.proofs.Ranges.{count-cong, count-without, Found, found, seek-is}
+use Rattle.vertex_set.proofs.Booleans.{clash, fails-left, fails-right}
+use Rattle.vertex_set.proofs.Ranges.{count-cong, count-without, seek-in, seek-out, Found, found, seek-is}
 use Rattle.vertex_set.proofs.Membership.{mem-zero, mem-suc, mem-none, mem-and, mem-ext}
 use Rattle.vertex_set.proofs.Sizes.{size-none}
 
@@ -38,21 +38,15 @@ module _ (s : ℕ) where
       half : s / 2 ^ suc i ≡ s / 2 ^ i / 2
       half = ap (λ (z : ℕ). s / 2 ^ z) (sym (add-one i)) ∙ sym (shr-shr s i 1)
 
-      out : mem i s ≡ false → seek (suc d) i (λ p. mem p s) ≡ seek d (suc i) (λ p. mem p s)
-      out m = rw (m, seek)
-
-      inn : mem i s ≡ true → seek (suc d) i (λ p. mem p s) ≡ i
-      inn m = rw (m, seek)
-
       go : (b : ℕ) → s / 2 ^ i % 2 ≡ b → b < 2 → seek d (suc i) (λ p. mem p s) ≡ suc i + trailingZeros d (s / 2 ^ suc i)
           → seek (suc d) i (λ p. mem p s) ≡ i + under (s / 2 ^ i % 2) (trailingZeros d (s / 2 ^ i / 2))
       go zero e h r =
           let step : suc i + trailingZeros d (s / 2 ^ i / 2) ≡ i + suc (trailingZeros d (s / 2 ^ i / 2)) = omega arith in
-          out (even-mem i e) ∙ r ∙ ap (λ (z : ℕ). suc i + trailingZeros d z) half ∙ step
+          seek-out (λ p. mem p s) d i (even-mem i e) ∙ r ∙ ap (λ (z : ℕ). suc i + trailingZeros d z) half ∙ step
           ∙ ap (λ (z : ℕ). i + under z (trailingZeros d (s / 2 ^ i / 2))) (sym e)
       go (suc zero) e h r =
           let step : i ≡ i + 0 = omega arith in
-          inn (odd-mem i e) ∙ step ∙ ap (λ (z : ℕ). i + under z (trailingZeros d (s / 2 ^ i / 2))) (sym e)
+          seek-in (λ p. mem p s) d i (odd-mem i e) ∙ step ∙ ap (λ (z : ℕ). i + under z (trailingZeros d (s / 2 ^ i / 2))) (sym e)
       go (suc (suc b)) e h r = absurd (omega (arith, h))
 
   pub lowest-zeros : lowest s ≡ trailingZeros 64 s
@@ -95,6 +89,15 @@ module _ (s : ℕ) where
   pub lowest-in : 0 < s → s < 2 ^ 64 → mem (lowest s) s ≡ true
   lowest-in p h = lowest-hit (lowest-lt p h)
 
+-- a search ends at the lowest vertex of the set of those that pass
+pub seek-lowest : (f : ℕ → Bool) (d i n w : ℕ) → i + d ≡ n → 0 < w → w < 2 ^ 64 → ((p : ℕ) → mem p w ≡ true → (i ≤ p) × (p < n))
+    → ((p : ℕ) → i ≤ p → p < n → mem p w ≡ f p) → seek d i f ≡ lowest w
+seek-lowest f d i n w e pos h within is =
+    let m : mem (lowest w) w ≡ true = lowest-in w pos h in
+    let b : (i ≤ lowest w) × (lowest w < n) = within (lowest w) m in
+    seek-is f d i (lowest w) (b .0) (omega arith) (sym (is (lowest w) (b .0) (b .1)) ∙ m)
+    (λ j x y. sym (is j x (omega arith)) ∙ lowest-least w j y)
+
 -- ---- a set without its lowest member, as `s & (s - 1)` makes it
 
 abbrev pub rest : ℕ → ℕ
@@ -114,20 +117,16 @@ zeros-rest (suc k) s p h = go (zeros-rest k (s / 2)) (s % 2) refl
     even-out : (t : ℕ) → t % 2 ≡ 0 → mem zero t ≡ false
     even-out t e = mem-zero t ∙ ap (λ (x : ℕ). eqb x 1) e
 
-    none : (x y : Bool) → x ≡ false → (x && y) ≡ false
-    none x y e = ap (λ (b : Bool). b && y) e
-
     low : mem zero (rest s) ≡ false
     low = mem-and zero s (s - 1) ∙ pick (s % 2) refl
       where
         pick : (d : ℕ) → s % 2 ≡ d → (mem zero s && mem zero (s - 1)) ≡ false
-        pick zero e = none (mem zero s) (mem zero (s - 1)) (even-out s e)
-        pick (suc d) e = ap (λ (b : Bool). mem zero s && b) (even-out (s - 1) (omega (arith, mod-lt s (zero-lt-suc 1))))
-            ∙ and-false (mem zero s)
+        pick zero e = fails-left (mem zero s) (mem zero (s - 1)) (even-out s e)
+        pick (suc d) e = fails-right (mem zero s) (mem zero (s - 1)) (even-out (s - 1) (omega (arith, mod-lt s (zero-lt-suc 1))))
 
     go : (0 < s / 2 → s / 2 < 2 ^ k → (q : ℕ) → mem q (rest (s / 2)) ≡ (mem q (s / 2) && not (eqb q (trailingZeros k (s / 2)))))
         → (d : ℕ) → s % 2 ≡ d → (q : ℕ) → mem q (rest s) ≡ (mem q s && not (eqb q (under d (trailingZeros k (s / 2)))))
-    go ih zero e zero = low ∙ sym (none (mem zero s) (not (eqb zero (suc (trailingZeros k (s / 2))))) (even-out s e))
+    go ih zero e zero = low ∙ sym (fails-left (mem zero s) (not (eqb zero (suc (trailingZeros k (s / 2))))) (even-out s e))
     go ih zero e (suc q) =
         let f : (s - 1) / 2 ≡ s / 2 - 1 = omega arith in
         up q ∙ ap (λ (x : ℕ). mem q (bitAnd (s / 2) x)) f ∙ ih (omega arith) (omega (arith, pow-suc 2 k)) q

@@ -6,11 +6,11 @@ use native.Mathlib.Omega.{arith}
 use native.Mathlib.Decide.{decLt, ℕ-discrete}
 use mathlib.Core.Path.{_≡_, refl, sym, ap, ap₂, _∙_, subst}
 use mathlib.Core.Logic.{_≢_}
-use mathlib.Core.Bool.{Bool, true, false, not, _&&_, _||_}
+use mathlib.Core.Bool.{Bool, true, false, not, _&&_, _||_, and-true}
 use lib.Dec.{ltb, eqb}
 use borrow.Author.Tests.{ltb-true, ltb-false, ne-eqb, eq-eqb}
 use Rattle.vertex_set.specs.Ranges.{bit, all, count, seek}
-use Rattle.vertex_set.proofs.Booleans.{clash, cases, and-intro, and-left, and-right}
+use Rattle.vertex_set.proofs.Booleans.{clash, cases, and-intro, and-left, and-right, fails-right}
 
 last : {n p : ℕ} → p < suc n → p ≢ n → p < n
 last h e = omega arith
@@ -93,34 +93,26 @@ module _ (f : ℕ → Bool) where
   count-without zero q h e = absurd (not-suc-le-zero h)
   count-without (suc n) q h e = go (ℕ-discrete n q) (λ (k : q < n). count-without n q k e)
     where
-      off : (x : Bool) → bit (x && false) ≡ 0
-      off true = refl
-      off false = refl
-
-      on : (x : Bool) → (x && true) ≡ x
-      on true = refl
-      on false = refl
-
       go : Dec (n ≡ q) → (q < n → count n f ≡ count n (λ p. f p && not (eqb p q)) + 1)
           → count n f + bit (f n) ≡ count n (λ p. f p && not (eqb p q)) + bit (f n && not (eqb n q)) + 1
       go (yes x) r =
           let same : count n f ≡ count n (λ p. f p && not (eqb p q)) =
-          count-cong f (λ p. f p && not (eqb p q)) n (λ p k. sym (ap (λ (b : Bool). f p && not b) (ne-eqb p q (omega arith)) ∙ on (f p))) in
-          let gone : bit (f n && not (eqb n q)) ≡ 0 = ap (λ (b : Bool). bit (f n && not b)) (eq-eqb n q x) ∙ off (f n) in
+          count-cong f (λ p. f p && not (eqb p q)) n (λ p k. sym (ap (λ (b : Bool). f p && not b) (ne-eqb p q (omega arith)) ∙ and-true (f p))) in
+          let gone : bit (f n && not (eqb n q)) ≡ 0 = ap bit (fails-right (f n) (not (eqb n q)) (ap not (eq-eqb n q x))) in
           let here : bit (f n) ≡ 1 = ap bit (ap f x ∙ e) in
           omega arith
       go (no x) r =
-          let kept : bit (f n && not (eqb n q)) ≡ bit (f n) = ap bit (ap (λ (b : Bool). f n && not b) (ne-eqb n q x) ∙ on (f n)) in
+          let kept : bit (f n && not (eqb n q)) ≡ bit (f n) = ap bit (ap (λ (b : Bool). f n && not b) (ne-eqb n q x) ∙ and-true (f n)) in
           omega (arith, r (omega arith))
 
 -- ---- seek
 
 module _ (f : ℕ → Bool) where
-  seek-in : (d i : ℕ) → f i ≡ true → seek (suc d) i f ≡ i
+  pub seek-in : (d i : ℕ) → f i ≡ true → seek (suc d) i f ≡ i
   unfolding seek
   seek-in d i e = rw (e, seek)
 
-  seek-out : (d i : ℕ) → f i ≡ false → seek (suc d) i f ≡ seek d (suc i) f
+  pub seek-out : (d i : ℕ) → f i ≡ false → seek (suc d) i f ≡ seek d (suc i) f
   unfolding seek
   seek-out d i e = rw (e, seek)
 

@@ -3,7 +3,7 @@ use mathlib.Core.Path.{sym, _∙_}
 use native.Mathlib.Omega.{arith}
 use borrow.Author.Needs.{needs}
 use borrow.Author.Tests.{not-true, not-false}
-use Rattle.vertex_set.specs.Sets.{size, lowest}
+use Rattle.vertex_set.specs.Sets.{size}
 use Rattle.vertex_set.proofs.LowestVertex.{lowest-lt, size-rest}
 use Rattle.signed_graph.proofs.RowChecks.{Seen, seen-start, seen-next, seen-fails, seen-end}
 use Rattle.signed_graph.proofs.symmetric_row.Statement.{statement}
@@ -45,11 +45,11 @@ symmetric-row-spec =
     μ-loop
     loop-holds
     (λ c κs. search needs)
-    (λ c. omega (arith, c .lowest .ensures, lowest-lt _ (search needs) (c .before .before .loop .inv .fits)))
-    (λ c. omega (arith, c .lowest .ensures, lowest-lt _ (search needs) (c .before .before .loop .inv .fits)))
+    (λ c. omega (arith, c .lowest .ensures, lowest-lt _ (search needs) (c .before .before .loop .inv .sweep .fits)))
+    (λ c. omega (arith, c .lowest .ensures, lowest-lt _ (search needs) (c .before .before .loop .inv .sweep .fits)))
     (λ c κs. search needs)
     returns
     (λ c. search needs)
-    (λ c. omega (arith, size-rest _ (search needs) (c .before .before .before .before .before .loop .inv .fits)))
+    (λ c. omega (arith, size-rest _ (search needs) (c .before .before .before .before .before .loop .inv .sweep .fits)))
     loop-again
     returns-2)
