@@ -8,6 +8,7 @@ use lib.Dec.{ltb, eqb}
 use lib.Bits.{bitAnd, bitOr, or-lt, and-le-l}
 use native.Mathlib.Nat.{lt-of-le-of-lt}
 use borrow.Author.Tests.{ltb-true, lt-ltb, not-true}
+use Rattle.vertex_set.proofs.Alternatives.{applies, passes-by}
 use Rattle.vertex_set.specs.Sets.{mem, insert, lowest, below}
 use Rattle.vertex_set.proofs.Booleans.{clash, cases, iff, and-intro, and-left, and-right, or-left, or-right, neither-right}
 use Rattle.vertex_set.proofs.Ranges.{none-seek}
@@ -22,7 +23,6 @@ use Rattle.clique.specs.Balance.{Split, Balanced, Sides, balanced, left}
 use Rattle.clique.specs.Groups.{extension}
 use Rattle.clique.specs.Stages.{commonPart, joiningPart, fromExtension, Halved}
 use Rattle.clique.proofs.Balance.{left-lt, right-lt, usable-64, other-side, split-swap, split-part, split-balanced, balanced-words, words-balanced, balanced-sides, is-left, is-right}
-use Rattle.clique.proofs.Verdicts.{applies, passes-by}
 use Rattle.clique.proofs.CommonParts.{common-lt, common-start, common-row, common-of}
 
 -- p can join the side l of a set with the sides l and r: it is positive to that side and negative to the other

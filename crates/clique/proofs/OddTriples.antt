@@ -7,6 +7,7 @@ use mathlib.Core.Bool.{Bool, true, false, _&&_}
 use lib.Dec.{ltb}
 use lib.ListN.{getD}
 use borrow.Author.Tests.{lt-ltb}
+use Rattle.vertex_set.proofs.Alternatives.{applies, passes-by}
 use Rattle.vertex_set.specs.Sets.{mem, lowest}
 use Rattle.vertex_set.proofs.Booleans.{clash, cases, and-intro, fails-left, fails-right}
 use Rattle.vertex_set.proofs.Ranges.{seek-is, none-seek}
@@ -19,7 +20,7 @@ use Rattle.signed_graph.proofs.Soundness.{to-sound}
 use Rattle.clique.specs.declared.Verdict.the-variants as Is
 use Rattle.clique.specs.Verdicts.{oneOrThree, oddTriple, oddFirst, oddSecond, oddThird}
 use Rattle.clique.specs.Stages.{fromSides, fromTriples, Known, Complete, Sided, oddPart}
-use Rattle.clique.proofs.Verdicts.{applies, passes-by, missing-none, none-odd, even-negative, triple-even, even-balanced}
+use Rattle.clique.proofs.Verdicts.{missing-none, none-odd, even-negative, triple-even, even-balanced}
 use Rattle.clique.proofs.FirstPairs.{Run, run-begin, run-step, run-end, first-is, second-is}
 use Rattle.clique.proofs.MissingEdges.{known-64, known-lt}
 

@@ -6,6 +6,7 @@ use mathlib.Core.Bool.{Bool, true, false, not, _&&_, _||_, or-comm}
 use lib.Dec.{eqb}
 use lib.ListN.{getD}
 use lib.Bits.{bitAnd, bitOr, and-le-l}
+use Rattle.vertex_set.proofs.Alternatives.{applies, passes-by}
 use Rattle.vertex_set.specs.Sets.{mem, size, lowest, single}
 use Rattle.vertex_set.proofs.Membership.{mem-and, mem-or, mem-minus}
 use Rattle.vertex_set.proofs.Collections.{mem-pow, mem-part, collect-is, single-pow}
@@ -17,7 +18,6 @@ use Rattle.clique.specs.Balance.{sameSide, left, right}
 use Rattle.clique.specs.Groups.{floor}
 use Rattle.clique.specs.Stages.{fromExtension, fromSides, Sided, Halved}
 use Rattle.clique.proofs.Balance.{left-lt}
-use Rattle.clique.proofs.Verdicts.{applies, passes-by}
 use Rattle.clique.proofs.MissingEdges.{known-64}
 
 module _ (g : SignedGraph) (s : ℕ) (h : s < 2 ^ 64) where

@@ -9,6 +9,7 @@ use lib.Dec.{leb, ltb, eqb}
 use borrow.Author.Tests.{ltb-false, lt-leb, le-leb, le-ltb, lt-ltb, eq-eqb, ne-eqb, eqb-false, not-false}
 use Rattle.vertex_set.specs.Sets.{mem, Subset, size, lowest}
 use Rattle.vertex_set.proofs.Booleans.{clash, cases, and-intro, and-left, and-right, and-other, fails-left, fails-right, beq-eq, eq-beq, beq-ne, ne-beq, beq-true, beq-nots}
+use Rattle.vertex_set.proofs.Alternatives.{passes-by, not-said}
 use Rattle.vertex_set.proofs.Ranges.{seek-none, none-seek}
 use Rattle.vertex_set.proofs.Membership.{mem-lt, mem-pos}
 use Rattle.vertex_set.proofs.LowestVertex.{lowest-in, lowest-le}
@@ -19,22 +20,9 @@ use Rattle.clique.specs.declared.Verdict.{Verdict}
 use Rattle.clique.specs.declared.Verdict.the-variants as Is
 use Rattle.clique.specs.Balance.{agrees, sameSide, balanced, left, right}
 use Rattle.clique.specs.Groups.{floor, Group, extension, isGroup}
-use Rattle.clique.specs.Verdicts.{provided, _orElse_, firstOutside, lacksEdge, missingSecond, missingFirst, oneOrThree, oddTriple, oddThird, oddSecond, oddFirst, verdict}
+use Rattle.clique.specs.Verdicts.{firstOutside, lacksEdge, missingSecond, missingFirst, oneOrThree, oddTriple, oddThird, oddSecond, oddFirst, verdict}
 use Rattle.clique.proofs.Balance.{agrees-inside, agrees-across, agrees-of, side-self, side-other, usable-lt, usable-64, agrees-comm, passes, passed, balanced-words, words-balanced, is-left, is-right}
 use Rattle.clique.proofs.Groups.{extension-found, extends-none, maximal-single, group-words}
-
--- ---- the first verdict that applies
-
-pub applies : (b : Bool) (v w : Verdict) → b ≡ true → (provided b v orElse w) ≡ v
-applies b v w e = ap (λ (x : Bool). provided x v orElse w) e
-
-pub passes-by : (b : Bool) (v w : Verdict) → b ≡ false → (provided b v orElse w) ≡ w
-passes-by b v w e = ap (λ (x : Bool). provided x v orElse w) e
-
--- what is said last is said where another verdict does not apply
-not-said : (b : Bool) (v w x : Verdict) → (v ≡ x → ⊥) → (provided b v orElse w) ≡ x → (b ≡ false) × (w ≡ x)
-not-said true v w x d e = absurd (d e)
-not-said false v w x d e = (refl, e)
 
 -- ---- one or three of three
 

@@ -5,6 +5,7 @@ use mathlib.Core.Bool.{true, false, not, _&&_, _||_}
 use mathlib.Core.List.{List}
 use lib.Dec.{ltb}
 use lib.ListN.{getD}
+use Rattle.vertex_set.specs.Alternatives.{_orElse_}
 use Rattle.vertex_set.specs.Ranges.{all}
 use Rattle.vertex_set.specs.Sets.{mem, Subset, collect}
 use Rattle.signed_graph.specs.declared.SignedGraph.{SignedGraph}
@@ -13,7 +14,7 @@ use Rattle.signed_graph.specs.Soundness.{sound}
 use Rattle.clique.specs.declared.Verdict.{Verdict}
 use Rattle.clique.specs.declared.Verdict.the-variants.{Group}
 use Rattle.clique.specs.Balance.{balanced, left, right}
-use Rattle.clique.specs.Verdicts.{_orElse_, oneOrThree, missingFirst, missingEdge, unbalanced, tooSmall, extensible}
+use Rattle.clique.specs.Verdicts.{oneOrThree, missingFirst, missingEdge, unbalanced, tooSmall, extensible}
 
 -- ---- the verdicts from each stage on
 

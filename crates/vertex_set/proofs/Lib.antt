@@ -1,7 +1,9 @@
 pub mod Booleans
+pub mod Alternatives
 pub mod Ranges
 pub mod Membership
 pub mod Collections
 pub mod Sizes
 pub mod LowestVertex
 pub mod Sweeps
+pub mod Gathering

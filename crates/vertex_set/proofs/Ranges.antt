@@ -1,15 +1,17 @@
--- Laws of `all`, `count` and `seek` over a range of numbers. Assumes nothing.
-use Prim.Native.Nat.{ℕ, zero, suc, _+_, _≤_, _<_}
-use native.Mathlib.Nat.{not-suc-le-zero}
+-- Laws of `all`, `count`, `seek` and `gather` over a range of numbers. Assumes nothing.
+use Prim.Native.Nat.{ℕ, zero, suc, _+_, _-_, _≤_, _<_}
+use native.Mathlib.Nat.{not-suc-le-zero, add-zero}
 use native.Mathlib.Numerals.{add-one}
 use native.Mathlib.Omega.{arith}
 use native.Mathlib.Decide.{decLt, ℕ-discrete}
 use mathlib.Core.Path.{_≡_, refl, sym, ap, ap₂, _∙_, subst}
 use mathlib.Core.Logic.{_≢_}
 use mathlib.Core.Bool.{Bool, true, false, not, _&&_, _||_, and-true}
+use mathlib.Core.List.{List, [], _∷_, _++_}
 use lib.Dec.{ltb, eqb}
+use lib.ListN.{length, getD, length-append}
 use borrow.Author.Tests.{ltb-true, ltb-false, ne-eqb, eq-eqb}
-use Rattle.vertex_set.specs.Ranges.{bit, all, count, seek}
+use Rattle.vertex_set.specs.Ranges.{bit, all, count, seek, gather}
 use Rattle.vertex_set.proofs.Booleans.{clash, cases, and-intro, and-left, and-right, fails-right}
 
 last : {n p : ℕ} → p < suc n → p ≢ n → p < n
@@ -166,3 +168,42 @@ module _ (f : ℕ → Bool) where
         (λ t. let l : seek d i f < n = ltb-true (seek d i f) n t in
         clash (f (seek d i f)) (found d i .hit (omega arith)) (h (seek d i f) (found d i .low) l))
         (λ t. t)
+
+-- ---- gather
+
+module _ {A : Type 0} (f : ℕ → List A) (n i : ℕ) where
+  -- a turn of a loop that goes from i up to n, and its end
+  pub gather-more : i < n → gather (n - i) i f ≡ f i ++ gather (n - (i + 1)) (i + 1) f
+  unfolding gather
+  gather-more h =
+      let e : n - i ≡ suc (n - (i + 1)) = omega arith in
+      ap (λ (d : ℕ). gather d i f) e ∙ ap (λ (j : ℕ). f i ++ gather (n - (i + 1)) j f) (sym (add-one i))
+
+  pub gather-end : n ≤ i → gather (n - i) i f ≡ []
+  unfolding gather
+  gather-end h =
+      let e : n - i ≡ 0 = omega arith in
+      ap (λ (d : ℕ). gather d i f) e
+
+-- a list of one element for each number
+module _ {A : Type 0} (f : ℕ → A) where
+  pub length-each : (d i : ℕ) → length (gather d i (λ p. f p ∷ [])) ≡ d
+  unfolding gather
+  length-each zero i = refl
+  length-each (suc d) i = ap suc (length-each d (suc i))
+
+  pub getD-each : (d i j : ℕ) (x : A) → j < d → getD (gather d i (λ p. f p ∷ [])) j x ≡ f (i + j)
+  unfolding gather
+  getD-each zero i j x h = absurd (not-suc-le-zero h)
+  getD-each (suc d) i zero x h = ap f (sym (add-zero i))
+  getD-each (suc d) i (suc j) x h = getD-each d (suc i) j x (omega arith) ∙ ap f (omega arith)
+
+-- where each number gives one element or none, their number is counted
+pub length-gather : {A : Type 0} (f : ℕ → List A) (h : ℕ → Bool) → ((p : ℕ) → length (f p) ≡ bit (h p))
+    → (d i : ℕ) → count i h + length (gather d i f) ≡ count (i + d) h
+unfolding gather count
+length-gather f h e zero i = omega (arith, ap (λ (k : ℕ). count k h) (add-zero i))
+length-gather f h e (suc d) i =
+    let same : suc i + d ≡ i + suc d = omega arith in
+    let one : count (suc i) h ≡ count i h + bit (h i) = refl in
+    omega (arith, length-append (f i) (gather d (suc i) f), e i, length-gather f h e d (suc i), ap (λ (k : ℕ). count k h) same)

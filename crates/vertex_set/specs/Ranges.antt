@@ -1,6 +1,7 @@
--- Tests over a range of numbers: whether all pass, how many pass, which is the first to pass. Assumes nothing.
+-- Ranges of numbers: whether all pass a test, how many pass, which is the first to pass; what they give, joined. Assumes nothing.
 use Prim.Native.Nat.{ℕ, zero, suc, _+_}
 use mathlib.Core.Bool.{Bool, true, false, _&&_}
+use mathlib.Core.List.{List, [], _++_}
 
 -- 1 where a test passes, else 0
 abbrev pub bit : Bool → ℕ
@@ -21,3 +22,9 @@ count (suc n) f = count n f + bit (f n)
 unfoldable pub seek : ℕ → ℕ → (ℕ → Bool) → ℕ
 seek zero i f = i
 seek (suc d) i f = elim (f i) [ true ↦ i | false ↦ seek d (suc i) f ]
+
+-- what f gives of i, i + 1, .., d numbers, joined in this order
+module _ {A : Type 0} where
+  unfoldable pub gather : ℕ → ℕ → (ℕ → List A) → List A
+  gather zero i f = []
+  gather (suc d) i f = f i ++ gather d (suc i) f

@@ -1,10 +1,11 @@
 -- Sets of vertices as 64-bit numbers: bit p stands for vertex p (document 01: path p). Assumes nothing.
 use mathlib.Core.Path.{_≡_}
-use mathlib.Core.Bool.{Bool, true}
+use mathlib.Core.Bool.{Bool, true, false}
+use mathlib.Core.List.{List, []}
 use Prim.Native.Nat.{ℕ, zero, suc, _+_, _*_, _/_, _%_, _^_}
 use lib.Dec.{eqb, ltb}
 use lib.Bits.{bitOr}
-use Rattle.vertex_set.specs.Ranges.{bit, count, seek}
+use Rattle.vertex_set.specs.Ranges.{bit, count, seek, gather}
 
 -- vertex p is in the set s
 unfoldable pub mem : ℕ → ℕ → Bool
@@ -38,3 +39,8 @@ single p = collect 64 (λ q. eqb q p)
 -- the n lowest vertices; all 64 for n over 64
 unfoldable pub below : ℕ → ℕ
 below n = collect 64 (λ q. ltb q n)
+
+-- what f gives of the vertices of s, ascending, joined
+module _ {A : Type 0} where
+  unfoldable pub overMembers : ℕ → (ℕ → List A) → List A
+  overMembers s f = gather 64 0 (λ p. elim (mem p s) [ true ↦ f p | false ↦ [] ])
