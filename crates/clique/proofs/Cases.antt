@@ -3,12 +3,12 @@ use mathlib.Core.Path.{_≡_, refl}
 use mathlib.Core.Bool.{true}
 use mathlib.Core.List.{List, [], _∷_}
 use Prim.Native.Nat.{ℕ, _+_, _^_}
+use Rattle.vertex_set.specs.Lists.{select}
 use Rattle.vertex_set.specs.Ranges as R
 use Rattle.vertex_set.specs.Sets as S
 use Rattle.signed_graph.specs.Graphs.{edgeless, vertices}
 use Rattle.signed_graph.specs.Soundness.{sound, whole, loopless, symmetric, confined, unambiguous}
 use Rattle.clique.specs.declared.Verdict.the-variants.{MissingEdge, Unbalanced, TooSmall, Extensible}
-use Rattle.clique.specs.Lists.{select}
 use Rattle.clique.specs.Balance.{balanced, allAgree, left, right}
 use Rattle.clique.specs.Groups.{floor, extension, isGroup}
 use Rattle.clique.specs.Order.{choices, subsets, groups}

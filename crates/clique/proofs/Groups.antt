@@ -8,18 +8,18 @@ use mathlib.Core.Bool.{Bool, true, false, not, _&&_}
 use mathlib.Core.List.{List·Memᴰ}
 use lib.Dec.{ltb, eqb}
 use borrow.Author.Tests.{ltb-true, lt-ltb, eqb-true, eq-eqb, not-true}
+use Rattle.vertex_set.specs.Lists.{Sorted}
 use Rattle.vertex_set.specs.Sets.{mem, Subset, insert, size}
+use Rattle.vertex_set.proofs.Lists.{selected, select-keeps, sorted-select}
 use Rattle.vertex_set.proofs.Booleans.{clash, cases, and-intro, and-left, and-right}
 use Rattle.vertex_set.proofs.Ranges.{Found, found}
 use Rattle.vertex_set.proofs.Membership.{mem-ext, lt-of-members}
 use Rattle.vertex_set.proofs.Collections.{insert-in, insert-cases, insert-keeps}
 use Rattle.signed_graph.specs.declared.SignedGraph.{SignedGraph}
 use Rattle.signed_graph.proofs.Soundness.{Sound}
-use Rattle.clique.specs.Lists.{Sorted}
 use Rattle.clique.specs.Balance.{Balanced, balanced, left, right}
 use Rattle.clique.specs.Groups.{floor, Group, extension, isGroup}
 use Rattle.clique.specs.Order.{difference, precedes, subsets, groups}
-use Rattle.clique.proofs.Lists.{selected, select-keeps, sorted-select}
 use Rattle.clique.proofs.Balance.{usable-lt, usable-64, balanced-words, words-balanced, balanced-sides, is-left, is-right, hereditary}
 use Rattle.clique.proofs.Order.{agree-below, differ-at, subsets-sorted, subsets-all}
 

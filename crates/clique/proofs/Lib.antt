@@ -1,4 +1,3 @@
-pub mod Lists
 pub mod Balance
 pub mod Order
 pub mod Groups

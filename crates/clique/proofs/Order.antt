@@ -11,14 +11,14 @@ use lib.Dec.{ltb}
 use lib.Bits.{bitXor, or-lt}
 use lib.Pow.{pow-pos}
 use borrow.Author.Tests.{ltb-true, lt-ltb, ne-eqb, not-true, not-false}
+use Rattle.vertex_set.specs.Lists.{All, Sorted}
 use Rattle.vertex_set.specs.Sets.{mem, insert, lowest}
+use Rattle.vertex_set.proofs.Lists.{all-append, all-imp, sorted-append}
 use Rattle.vertex_set.proofs.Booleans.{clash, cases, and-intro, and-left, and-right, beq-eq, eq-beq, beq-ne}
 use Rattle.vertex_set.proofs.Membership.{mem-past, mem-xor, mem-ext}
 use Rattle.vertex_set.proofs.Collections.{mem-insert, insert-in}
 use Rattle.vertex_set.proofs.LowestVertex.{lowest-hit, lowest-least, lowest-is}
-use Rattle.clique.specs.Lists.{All, Sorted}
 use Rattle.clique.specs.Order.{difference, precedes, choices, subsets}
-use Rattle.clique.proofs.Lists.{all-append, all-imp, sorted-append}
 
 -- ---- where two sets differ first
 

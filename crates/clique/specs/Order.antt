@@ -4,9 +4,9 @@ use mathlib.Core.Bool.{Bool, _&&_}
 use mathlib.Core.List.{List, [], _∷_, _++_}
 use lib.Dec.{ltb}
 use lib.Bits.{bitXor}
+use Rattle.vertex_set.specs.Lists.{select}
 use Rattle.vertex_set.specs.Sets.{mem, insert, lowest}
 use Rattle.signed_graph.specs.declared.SignedGraph.{SignedGraph}
-use Rattle.clique.specs.Lists.{select}
 use Rattle.clique.specs.Groups.{isGroup}
 
 -- the lowest vertex that only one of two sets holds; 64 where there is none

@@ -4,10 +4,10 @@ use native.Mathlib.Omega.{arith}
 use mathlib.Core.Path.{_≡_, refl, sym, ap, ap₂, _∙_}
 use mathlib.Core.Logic.{_≢_}
 use mathlib.Core.Bool.{Bool, true, false, not, _&&_, _||_, or-comm, or-assoc, and-comm, or-false}
-use mathlib.Core.List.{List, [], _∷_, _++_}
+use mathlib.Core.List.{List, [], _∷_, _++_, List·Memᴰ, List·Memᴰ·head, List·Memᴰ·tail}
 use lib.Dec.{ltb, eqb}
 use borrow.Author.Tests.{ltb-true, lt-ltb, eqb-true, eqb-false, eq-eqb, ne-eqb, not-true}
-use Rattle.vertex_set.proofs.Booleans.{clash, cases, iff, and-intro, and-left, and-right, or-left, or-cases, neither-left, neither-right}
+use Rattle.vertex_set.proofs.Booleans.{clash, cases, iff, and-intro, and-left, and-right, or-left, or-right, or-cases, neither-left, neither-right}
 use Rattle.edge_list.specs.declared.Sign.{Sign}
 use Rattle.edge_list.specs.declared.Sign.the-variants.{Positive, Negative}
 use Rattle.edge_list.specs.Edges.{Edge, link, sameSign, joins, joinsAs, any, given, givenAs, proper}
@@ -24,6 +24,22 @@ module _ (f : Edge → Bool) where
   pub any-snoc : (es : List Edge) (e : Edge) → any f (es ++ e ∷ []) ≡ (any f es || f e)
   unfolding any
   any-snoc es e = any-append es (e ∷ []) ∙ ap (λ (b : Bool). any f es || b) (or-false (f e))
+
+  -- that is: one of the list does
+  pub any-mem : (es : List Edge) → any f es ≡ true → (e : Edge) × List·Memᴰ e es × (f e ≡ true)
+  unfolding any
+  any-mem [] h = clash false h refl
+  any-mem (e ∷ es) h = go (f e) refl (any-mem es)
+    where
+      go : (b : Bool) → f e ≡ b → (any f es ≡ true → (x : Edge) × List·Memᴰ x es × (f x ≡ true))
+          → (x : Edge) × List·Memᴰ x (e ∷ es) × (f x ≡ true)
+      go true t ih = (e, List·Memᴰ·head refl, t)
+      go false t ih = let r = ih (sym (ap (λ (b : Bool). b || any f es) t) ∙ h) in (r .0, List·Memᴰ·tail (r .1), r .2)
+
+  pub mem-any : (e : Edge) (es : List Edge) → List·Memᴰ e es → f e ≡ true → any f es ≡ true
+  unfolding any
+  mem-any e es (List·Memᴰ·head {x = x} {xs = xs} q) t = or-left (f x) (any f xs) (ap f (sym q) ∙ t)
+  mem-any e es (List·Memᴰ·tail {x = x} {xs = xs} m) t = or-right (f x) (any f xs) (mem-any e xs m t)
 
 any-cong : (f g : Edge → Bool) → ((e : Edge) → f e ≡ g e) → (es : List Edge) → any f es ≡ any g es
 unfolding any

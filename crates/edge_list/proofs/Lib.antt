@@ -4,5 +4,9 @@ pub mod Steps
 pub mod Decoding
 pub mod Openings
 pub mod Acceptance
+pub mod Canonical
 pub mod Rows
 pub mod Buffers
+pub mod Longest
+pub mod RoundTrips
+pub mod Cases

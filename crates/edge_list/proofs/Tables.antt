@@ -108,7 +108,7 @@ module _ (n : ℕ) (es : List Edge) (small : n ≤ 64) (ok : proper n es ≡ tru
 
 -- ---- an edge more
 
-same-self : (s : Sign) → sameSign s s ≡ true
+pub same-self : (s : Sign) → sameSign s s ≡ true
 same-self Positive = refl
 same-self Negative = refl
 

@@ -1,14 +1,18 @@
 -- Lists gathered from a range of numbers, and from the members of a set. Assumes nothing.
-use Prim.Native.Nat.{ℕ, zero, suc, _+_, _-_, _*_, _^_, _≤_, _<_}
-use native.Mathlib.Nat.{add-zero, zero-add, suc-mul}
+use Prim.Native.Nat.{ℕ, zero, suc, _+_, _-_, _^_, _≤_, _<_}
+use native.Mathlib.Nat.{add-zero, zero-add}
 use native.Mathlib.Omega.{arith}
-use mathlib.Core.Path.{_≡_, refl, sym, ap, ap₂, _∙_}
+use native.Mathlib.Decide.{ℕ-discrete}
+use mathlib.Core.Path.{_≡_, refl, sym, ap, ap₂, _∙_, subst}
 use mathlib.Core.Bool.{Bool, true, false}
-use mathlib.Core.List.{List, [], _∷_, _++_, append-assoc, append-nil}
-use lib.ListN.{length, length-append}
+use mathlib.Core.Logic.{_⊎_, inl, inr}
+use mathlib.Core.List.{List, [], _∷_, _++_, append-assoc, append-nil, List·Memᴰ, List·Memᴰ·not-nil, List·Memᴰ·append-cases, Memᴰ·append-left, Memᴰ·append-right}
+use lib.ListN.{length}
+use Rattle.vertex_set.specs.Lists.{All, Sorted}
 use Rattle.vertex_set.specs.Ranges.{bit, gather}
 use Rattle.vertex_set.specs.Sets.{mem, size, lowest, overMembers}
 use Rattle.vertex_set.proofs.Booleans.{cases, iff}
+use Rattle.vertex_set.proofs.Lists.{mem-all, sorted-append}
 use Rattle.vertex_set.proofs.Ranges.{count-le, gather-more, length-gather}
 use Rattle.vertex_set.proofs.Membership.{mem-none}
 use Rattle.vertex_set.proofs.LowestVertex.{lowest-lt, lowest-in, lowest-least, rest}
@@ -48,19 +52,49 @@ module _ {A : Type 0} (f : ℕ → List A) where
       ∙ ap (λ (x : List A). gather (n - i) i f ++ x) (gather-none (k - n) n (λ p h l. behind p h (omega arith)))
       ∙ append-nil (gather (n - i) i f)
 
-  -- where each number gives at most k elements
-  pub length-gather-le : (k : ℕ) → ((p : ℕ) → length (f p) ≤ k) → (d i : ℕ) → length (gather d i f) ≤ d * k
-  unfolding gather
-  length-gather-le k h zero i = omega arith
-  length-gather-le k h (suc d) i =
-      omega (arith, length-append (f i) (gather d (suc i) f), h i, length-gather-le k h d (suc i), suc-mul d k)
-
 pub gather-cong : {A : Type 0} (f g : ℕ → List A) (d i : ℕ) → ((p : ℕ) → i ≤ p → p < i + d → f p ≡ g p) → gather d i f ≡ gather d i g
 unfolding gather
 gather-cong f g zero i h = refl
 gather-cong {A} f g (suc d) i h =
     ap₂ (λ (a b : List A). a ++ b) (h i (omega arith) (omega arith))
     (gather-cong f g d (suc i) (λ p a b. h p (omega arith) (omega arith)))
+
+-- ---- the elements that are gathered
+
+module _ {A : Type 0} (f : ℕ → List A) where
+  pub gather-mem : (x : A) (d i : ℕ) → List·Memᴰ x (gather d i f) → (k : ℕ) × (i ≤ k) × (k < i + d) × List·Memᴰ x (f k)
+  unfolding gather
+  gather-mem x zero i m = absurd (List·Memᴰ·not-nil m)
+  gather-mem x (suc d) i m = go (List·Memᴰ·append-cases (f i) m) (gather-mem x d (suc i))
+    where
+      go : List·Memᴰ x (f i) ⊎ List·Memᴰ x (gather d (suc i) f)
+          → (List·Memᴰ x (gather d (suc i) f) → (k : ℕ) × (suc i ≤ k) × (k < suc i + d) × List·Memᴰ x (f k))
+          → (k : ℕ) × (i ≤ k) × (k < i + suc d) × List·Memᴰ x (f k)
+      go (inl u) ih = (i, omega arith, omega arith, u)
+      go (inr u) ih = let r = ih u in (r .0, omega (arith, r .1), omega (arith, r .2), r .3)
+
+  pub mem-gather : (x : A) (d i k : ℕ) → i ≤ k → k < i + d → List·Memᴰ x (f k) → List·Memᴰ x (gather d i f)
+  unfolding gather
+  mem-gather x zero i k a b m = absurd (omega arith)
+  mem-gather x (suc d) i k a b m = go (ℕ-discrete k i) (mem-gather x d (suc i) k)
+    where
+      go : Dec (k ≡ i) → (suc i ≤ k → k < suc i + d → List·Memᴰ x (f k) → List·Memᴰ x (gather d (suc i) f))
+          → List·Memᴰ x (f i ++ gather d (suc i) f)
+      go (yes e) ih = Memᴰ·append-left (gather d (suc i) f) (subst (λ (j : ℕ). List·Memᴰ x (f j)) e m)
+      go (no e) ih = Memᴰ·append-right (f i) (ih (omega arith) (omega arith) m)
+
+  -- lists that are sorted and follow one another are gathered into a sorted one
+  pub gather-sorted : (before : A → A → Bool) (d i : ℕ) → ((k : ℕ) → Sorted before (f k))
+      → ((j k : ℕ) → i ≤ j → j < k → (x y : A) → List·Memᴰ x (f j) → List·Memᴰ y (f k) → before x y ≡ true)
+      → Sorted before (gather d i f)
+  unfolding gather
+  gather-sorted before zero i each across = tt
+  gather-sorted before (suc d) i each across =
+      sorted-append before (f i) (gather d (suc i) f) (each i)
+      (gather-sorted before d (suc i) each (λ j k a b. across j k (omega arith) b))
+      (mem-all (λ x. All (λ y. before x y ≡ true) (gather d (suc i) f)) (f i) (λ x m.
+      mem-all (λ y. before x y ≡ true) (gather d (suc i) f) (λ y n.
+      let r = gather-mem y d (suc i) n in across i (r .0) (omega arith) (omega (arith, r .1)) x y m (r .3))))
 
 -- ---- the members of a set
 

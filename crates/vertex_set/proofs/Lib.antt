@@ -1,5 +1,6 @@
 pub mod Booleans
 pub mod Alternatives
+pub mod Lists
 pub mod Ranges
 pub mod Membership
 pub mod Collections

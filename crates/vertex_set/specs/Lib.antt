@@ -1,3 +1,4 @@
 pub mod Alternatives
+pub mod Lists
 pub mod Ranges
 pub mod Sets
