@@ -7,13 +7,13 @@ use Rattle.vertex_set.specs.Lists.{select}
 use Rattle.vertex_set.specs.Ranges as R
 use Rattle.vertex_set.specs.Sets as S
 use Rattle.signed_graph.specs.Graphs.{edgeless, vertices}
+use Rattle.signed_graph.specs.Samples.{triangle, chain, sampleA}
 use Rattle.signed_graph.specs.Soundness.{sound, whole, loopless, symmetric, confined, unambiguous}
 use Rattle.clique.specs.declared.Verdict.the-variants.{MissingEdge, Unbalanced, TooSmall, Extensible}
 use Rattle.clique.specs.Balance.{balanced, allAgree, left, right}
 use Rattle.clique.specs.Groups.{floor, extension, isGroup}
 use Rattle.clique.specs.Order.{choices, subsets, groups}
 use Rattle.clique.specs.Verdicts.{verdict, firstOutside, missingFirst, missingSecond, oddFirst, oddSecond, oddThird}
-use Rattle.clique.specs.Samples.{triangle, chain, sampleA}
 
 -- the set of the vertices of a list
 abbrev pub set : List ℕ → ℕ

@@ -3,4 +3,3 @@ pub mod Groups
 pub mod Order
 pub mod Verdicts
 pub mod Stages
-pub mod Samples

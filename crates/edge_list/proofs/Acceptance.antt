@@ -5,12 +5,12 @@ use native.Mathlib.Omega.{arith}
 use native.Mathlib.Decide.{decLt}
 use mathlib.Core.Path.{_≡_, refl, sym, ap, ap₂, _∙_, subst}
 use mathlib.Core.Logic.{_≢_}
-use mathlib.Core.Bool.{Bool, true, false, not, _||_}
+use mathlib.Core.Bool.{true, false, not}
 use mathlib.Core.List.{List, [], _∷_, _++_, append-assoc, append-nil}
 use lib.Dec.{ltb, eqb}
 use lib.ListN.{length, getD, drop, length-drop}
-use borrow.Author.Tests.{ltb-false, eqb-false, eqb-true, not-false}
-use Rattle.vertex_set.proofs.Booleans.{neither-left, neither-right}
+use borrow.Author.Tests.{ltb-false, eqb-true, not-false}
+use Rattle.vertex_set.proofs.Booleans.{neither-right}
 use Rattle.vertex_set.proofs.Alternatives.{not-said}
 use Rattle.signed_graph.specs.declared.SignedGraph.{SignedGraph}
 use Rattle.signed_graph.specs.Graphs.{positiveEdge, negativeEdge}
@@ -27,7 +27,7 @@ use Rattle.edge_list.specs.declared.Step.{Step}
 use Rattle.edge_list.specs.declared.Step.the-variants as Step′
 use Rattle.edge_list.specs.Edges.{Edge, link, given, givenAs, proper, graphOf, commandByte, bytesOf, listOf}
 use Rattle.edge_list.specs.Acceptance.{EdgeListOf}
-use Rattle.edge_list.specs.Decoding.{refused, accepted, commandOf, stepBy, stepOf, decodedFrom, decoded}
+use Rattle.edge_list.specs.Decoding.{refused, accepted, stepOf, decodedFrom, decoded}
 use Rattle.edge_list.proofs.Edges.{Fresh, proper-snoc, proper-at}
 use Rattle.edge_list.proofs.Tables.{table-given, graph-sound}
 use Rattle.edge_list.proofs.Steps.{Given, edge-given, close-given, no-fault, at-21, at-22, closed}
@@ -79,11 +79,11 @@ module _ (n : ℕ) (g : SignedGraph) where
         → (s : Sign) (a b : ℕ) → stepOf (given es) n part at ≡ Step′.Edge s a b → Rest n g es part
     unfolding bytesOf
     edge-behind es at ok e s a b t =
-        let step : Given (given es) n part s a b = edge-given (given es) n part at s a b t in
+        let step : Given (given es) n part s a b = edge-given (given es) n part at t in
         let r : Rest n g (es ++ link s a b ∷ []) (drop 3 part) =
         ih (step .room) (es ++ link s a b ∷ []) (at + 3)
         (proper-snoc n s a b es ok (record { low-a = step .low-a; low-b = step .low-b; two = step .two; new = step .new }))
-        (sym (after-edge n es part at s a b t) ∙ e) in
+        (sym (after-edge n es part at t) ∙ e) in
         record {
           more = link s a b ∷ r .more;
           once = ap (proper n) (sym (append-assoc es (link s a b ∷ []) (r .more))) ∙ r .once;
@@ -103,7 +103,7 @@ module _ (n : ℕ) (g : SignedGraph) where
           once = ap (proper n) (append-nil es) ∙ ok;
           spelled = one part some (d .1) ∙ ap (λ (x : ℕ). x ∷ []) (d .0);
           exactly =
-              ap (λ (d : Decoded). d .graph) (sym e ∙ next-command n es part at Step′.Close some t) ∙ ap (graphOf n) (sym (append-nil es));
+              ap (λ (d : Decoded). d .graph) (sym e ∙ next-command n es part at some t) ∙ ap (graphOf n) (sym (append-nil es));
         }
 
     one-behind : Behind part
@@ -112,7 +112,7 @@ module _ (n : ℕ) (g : SignedGraph) where
         go : (x : Step) → stepOf (given es) n part at ≡ x → Rest n g es part
         go (Step′.Edge s a b) t = edge-behind es at ok e s a b t
         go Step′.Close t = close-behind es at ok e t
-        go (Step′.Refuse f) t = absurd (not-refused f g (sym (next-command n es part at (Step′.Refuse f) some t) ∙ e))
+        go (Step′.Refuse f) t = absurd (not-refused f g (sym (next-command n es part at some t) ∙ e))
 
   behind : (m : ℕ) (part : List ℕ) → length part ≤ m → Behind part
   behind zero part h = none-behind part h
@@ -156,26 +156,21 @@ module _ (n : ℕ) where
   step-of : (es : List Edge) (s : Sign) (a b : ℕ) (l : List ℕ) (at : ℕ) → Fresh n es a b
       → stepOf (given es) n (commandByte s ∷ a ∷ b ∷ l) at ≡ Step′.Edge s a b
   step-of es Positive a b l at f =
+      let part : List ℕ = commandByte Positive ∷ a ∷ b ∷ l in
       sym (no-fault (given es) n Positive part at (omega arith) (f .low-a) (f .low-b) (f .two) (f .new) ∙ at-21 (given es) n part at refl)
-    where
-      part : List ℕ
-      part = commandByte Positive ∷ a ∷ b ∷ l
   step-of es Negative a b l at f =
+      let part : List ℕ = commandByte Negative ∷ a ∷ b ∷ l in
       sym (no-fault (given es) n Negative part at (omega arith) (f .low-a) (f .low-b) (f .two) (f .new) ∙ at-22 (given es) n part at refl)
-    where
-      part : List ℕ
-      part = commandByte Negative ∷ a ∷ b ∷ l
 
   from-edges : (more es : List Edge) (at : ℕ) → proper n (es ++ more) ≡ true
       → decodedFrom n es 0 (bytesOf more ++ 0xff ∷ []) at ≡ accepted (graphOf n (es ++ more))
   unfolding bytesOf
   from-edges [] es at ok =
-      next-command n es (0xff ∷ []) at Step′.Close (omega arith) (sym (closed (given es) n (0xff ∷ []) at refl (omega arith)))
+      next-command n es (0xff ∷ []) at (omega arith) (sym (closed (given es) n (0xff ∷ []) at refl (omega arith)))
       ∙ ap (λ (x : List Edge). accepted (graphOf n x)) (sym (append-nil es))
   from-edges (link s a b ∷ more) es at ok =
       let same : (es ++ link s a b ∷ []) ++ more ≡ es ++ link s a b ∷ more = append-assoc es (link s a b ∷ []) more in
-      after-edge n es (commandByte s ∷ a ∷ b ∷ (bytesOf more ++ 0xff ∷ [])) at s a b
-      (step-of es s a b (bytesOf more ++ 0xff ∷ []) at (proper-at n s a b es more ok))
+      after-edge n es _ at (step-of es s a b (bytesOf more ++ 0xff ∷ []) at (proper-at n s a b es more ok))
       ∙ from-edges more (es ++ link s a b ∷ []) (at + 3) (ap (proper n) same ∙ ok) ∙ ap (λ (x : List Edge). accepted (graphOf n x)) same
 
 pub list-accepted : (n : ℕ) (es : List Edge) → n ≤ 64 → proper n es ≡ true → decoded (listOf n es) ≡ accepted (graphOf n es)

@@ -2,16 +2,15 @@
 use Prim.Native.Nat.{ℕ}
 use mathlib.Core.Path.{_≡_, refl}
 use mathlib.Core.List.{List, [], _∷_}
-use lib.ListN.{replicate}
 use Rattle.vertex_set.specs.Ranges as R
 use Rattle.vertex_set.specs.Sets as S
-use Rattle.signed_graph.specs.declared.SignedGraph.{SignedGraph}
 use Rattle.signed_graph.specs.Graphs.{edgeless}
+use Rattle.signed_graph.specs.Samples.{sampleA}
 use Rattle.edge_list.specs.declared.Outcome.{Outcome}
 use Rattle.edge_list.specs.declared.Outcome.the-variants.{Accepted, Refused}
 use Rattle.edge_list.specs.Edges.{any, tableOf, bytesOf}
 use Rattle.edge_list.specs.Faults.{numberOf, placeOf}
-use Rattle.edge_list.specs.Decoding.{accepted, commandOf, edgeStep, stepBy, decodedFrom, decoded}
+use Rattle.edge_list.specs.Decoding.{accepted, commandOf, edgeStep, stepBy, stepOf, decodedFrom, decoded}
 use Rattle.edge_list.specs.Canonical.{edgesOf, canonical}
 
 -- the number and the place of a refusal
@@ -22,15 +21,7 @@ report (Refused f) = (numberOf f, placeOf f)
 abbrev refusal : List ℕ → ℕ × ℕ
 refusal bytes = report (decoded bytes .outcome)
 
--- graph A, and its list
-abbrev graphA : SignedGraph
-graphA =
-    record {
-      n = 5;
-      positive = 18 ∷ 1 ∷ 8 ∷ 4 ∷ 1 ∷ replicate 59 0;
-      negative = 12 ∷ 12 ∷ 19 ∷ 3 ∷ 4 ∷ replicate 59 0;
-    }
-
+-- the list of document 01 for graph A
 abbrev listA : List ℕ
 listA =
     0x10 ∷ 0x05 ∷ 0x21 ∷ 0x00 ∷ 0x01 ∷ 0x22 ∷ 0x00 ∷ 0x02 ∷ 0x22 ∷ 0x00 ∷ 0x03 ∷ 0x21 ∷ 0x00 ∷ 0x04 ∷ 0x22 ∷ 0x01 ∷ 0x02 ∷ 0x22 ∷ 0x01 ∷ 0x03 ∷ 0x21 ∷ 0x02 ∷ 0x03 ∷ 0x22 ∷ 0x02 ∷ 0x04 ∷ 0xff ∷ []
@@ -53,7 +44,7 @@ pub record Books : Type 0 where
   pub behind-9 : refusal (0x10 ∷ 0x02 ∷ 0xff ∷ 0x00 ∷ []) ≡ (9, 3)
 
 pub books : Books
-unfolding decoded decodedFrom stepBy edgeStep commandOf any tableOf edgeless R.gather S.collect
+unfolding decoded decodedFrom stepOf stepBy edgeStep commandOf any tableOf edgeless R.gather S.collect
 books = record { good-0 = refl; short-4 = refl; many-2 = refl; good-64 = refl; cut-4 = refl; range-5 = refl; loop-6 = refl; again-7 = refl; unclosed-8 = refl; behind-9 = refl }
 
 pub record Readings : Type 0 where
@@ -68,14 +59,14 @@ pub record Readings : Type 0 where
   pub closed-twice-9 : refusal (0x10 ∷ 0x02 ∷ 0xff ∷ 0xff ∷ []) ≡ (9, 3)
 
 pub readings : Readings
-unfolding decoded decodedFrom stepBy edgeStep commandOf any tableOf edgeless R.gather S.collect
+unfolding decoded decodedFrom stepOf stepBy edgeStep commandOf any tableOf edgeless R.gather S.collect
 readings = record { empty-1 = refl; first-1 = refl; opening-again-3 = refl; unclosed-at-once-8 = refl; ff-operand-5 = refl; ff-operand-4 = refl; cut-before-range = refl; range-before-loop = refl; closed-twice-9 = refl }
 
 pub record GraphA : Type 0 where
-  pub reads : decoded listA ≡ accepted graphA
-  pub reads-turned : decoded turnedA ≡ accepted graphA
-  pub writes : canonical graphA ≡ listA
+  pub reads : decoded listA ≡ accepted sampleA
+  pub reads-turned : decoded turnedA ≡ accepted sampleA
+  pub writes : canonical sampleA ≡ listA
 
 pub graph-A : GraphA
-unfolding decoded decodedFrom stepBy edgeStep commandOf any tableOf R.gather S.collect edgesOf bytesOf S.mem
+unfolding decoded decodedFrom stepOf stepBy edgeStep commandOf any tableOf R.gather S.collect edgesOf bytesOf S.mem
 graph-A = record { reads = refl; reads-turned = refl; writes = refl }

@@ -2,7 +2,7 @@
 use Prim.Native.Nat.{ℕ, suc, _+_, _≤_, _<_}
 use native.Mathlib.Numerals.{add-one}
 use native.Mathlib.Omega.{arith}
-use mathlib.Core.Path.{_≡_, refl, sym, ap, ap₂, _∙_, subst}
+use mathlib.Core.Path.{_≡_, refl, sym, ap, ap₂, _∙_, subst, fun-ext}
 use mathlib.Core.Logic.{_≢_}
 use mathlib.Core.Bool.{Bool, true, false, _||_}
 use mathlib.Core.List.{List}
@@ -77,7 +77,7 @@ module _ (before : ℕ → ℕ → Bool) (n : ℕ) (part : List ℕ) where
       b = getD part 2 0
 
   step-means : (at : ℕ) → Means (stepOf before n part at)
-  unfolding stepBy
+  unfolding stepOf stepBy
   step-means at = go (commandOf (getD part 0 0)) (byte-of (getD part 0 0))
     where
       go : (m : Command) → ByteOf (getD part 0 0) m → Means (stepBy m before n part at)
@@ -86,34 +86,16 @@ module _ (before : ℕ → ℕ → Bool) (n : ℕ) (part : List ℕ) where
           first-of Means (ltb 1 (length part)) (Refuse (TrailingBytes (suc at))) Close (λ _. tt) (λ h. (e, ltb-false 1 (length part) h))
       go unknown e = tt
 
-  pub edge-given : (at : ℕ) (s : Sign) (a b : ℕ) → stepOf before n part at ≡ Edge s a b → Given s a b
-  edge-given at s a b e = subst Means e (step-means at)
+  pub edge-given : (at : ℕ) {s : Sign} {a b : ℕ} → stepOf before n part at ≡ Edge s a b → Given s a b
+  edge-given at e = subst Means e (step-means at)
 
   pub close-given : (at : ℕ) → stepOf before n part at ≡ Close → (getD part 0 0 ≡ 0xff) × (length part ≤ 1)
   close-given at e = subst Means e (step-means at)
 
--- ---- tests that agree make the same step
-
-pub step-cong : (f g : ℕ → ℕ → Bool) → ((p q : ℕ) → f p q ≡ g p q) → (n : ℕ) (part : List ℕ) (at : ℕ) → stepOf f n part at ≡ stepOf g n part at
-unfolding stepBy edgeStep
-step-cong f g h n part at = go (commandOf (getD part 0 0))
-  where
-    a : ℕ
-    a = getD part 1 0
-
-    b : ℕ
-    b = getD part 2 0
-
-    go : (m : Command) → stepBy m f n part at ≡ stepBy m g n part at
-    go (gives s) =
-        ap (λ (x : Bool).
-        provided (ltb (length part) 3) (Refuse (Truncated at))
-        orElse provided (leb n a || leb n b) (Refuse (OutOfRange at))
-        orElse provided (eqb a b) (Refuse (Loop at))
-        orElse provided x (Refuse (Repeated at))
-        orElse Edge s a b) (h a b)
-    go closes = refl
-    go unknown = refl
+-- tests that agree make the same step
+pub step-cong : (f g : ℕ → ℕ → Bool) → ((p q : ℕ) → f p q ≡ g p q) → (n : ℕ) (part : List ℕ) (at : ℕ)
+    → stepOf f n part at ≡ stepOf g n part at
+step-cong f g h n part at = ap (λ (f : ℕ → ℕ → Bool). stepOf f n part at) (fun-ext (λ p. fun-ext (h p)))
 
 -- ---- the checks of an edge, one after the other
 
@@ -165,6 +147,7 @@ module _ (before : ℕ → ℕ → Bool) (n : ℕ) (part : List ℕ) (at : ℕ) 
   c = getD part 0 0
 
   by-command : (m : Command) → commandOf c ≡ m → stepBy m before n part at ≡ stepOf before n part at
+  unfolding stepOf
   by-command m e = ap (λ (x : Command). stepBy x before n part at) (sym e)
 
   pub at-21 : c ≡ 0x21 → edgeStep before n Positive part at ≡ stepOf before n part at

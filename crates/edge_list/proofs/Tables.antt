@@ -7,19 +7,18 @@ use mathlib.Core.Path.{_≡_, refl, sym, ap, ap₂, _∙_, subst}
 use mathlib.Core.Bool.{Bool, true, false, _&&_, _||_, or-false, or-assoc, and-comm}
 use mathlib.Core.List.{List, [], _∷_, _++_}
 use lib.Dec.{eqb}
-use lib.ListN.{length, getD, set, length-set, replicate, length-replicate, getD-replicate}
+use lib.ListN.{length, getD, length-set, replicate, length-replicate, getD-replicate}
 use lib.Seq.{getD-set-same, getD-set-other, ext-getD}
 use lib.Bits.{or-lt}
-use lib.Pow.{pow-pos, pow-lt, pow-mono}
+use lib.Pow.{pow-pos, pow-lt}
 use borrow.Author.Tests.{le-leb, eq-eqb, ne-eqb}
-use Rattle.vertex_set.specs.Ranges.{gather}
-use Rattle.vertex_set.specs.Sets.{mem, collect, insert}
-use Rattle.vertex_set.proofs.Booleans.{clash, cases, iff, fails-left}
+use Rattle.vertex_set.specs.Sets.{mem, insert}
+use Rattle.vertex_set.proofs.Booleans.{cases, fails-left}
 use Rattle.vertex_set.proofs.Ranges.{length-each, getD-each}
 use Rattle.vertex_set.proofs.Membership.{mem-none, mem-past, mem-ext, lt-of-members}
 use Rattle.vertex_set.proofs.Collections.{collect-lt, collect-at, mem-insert}
 use Rattle.signed_graph.specs.declared.SignedGraph.{SignedGraph}
-use Rattle.signed_graph.specs.Graphs.{positiveEdge, negativeEdge, edgeless}
+use Rattle.signed_graph.specs.Graphs.{edgeless}
 use Rattle.signed_graph.proofs.Soundness.{Table, to-table, past-row, Sound}
 use Rattle.edge_list.specs.declared.Sign.{Sign}
 use Rattle.edge_list.specs.declared.Sign.the-variants.{Positive, Negative}

@@ -1,6 +1,6 @@
 -- Decoding (document 01: reading a book): left to right up to the first fault, with the checks in document 01's order. Assumes nothing.
 use Prim.Native.Nat.{ℕ, zero, suc}
-use mathlib.Core.Bool.{Bool, true, false, not, _||_}
+use mathlib.Core.Bool.{Bool, not, _||_}
 use mathlib.Core.List.{List, [], _∷_, _++_}
 use lib.Dec.{leb, ltb, eqb}
 use lib.ListN.{length, getD, drop}
@@ -58,7 +58,7 @@ stepBy unknown before n part at = Refuse (UnknownCommand at)
 stepBy (gives s) before n part at = edgeStep before n s part at
 stepBy closes before n part at = provided (ltb 1 (length part)) (Refuse (TrailingBytes (suc at))) orElse Close
 
-abbrev pub stepOf : (ℕ → ℕ → Bool) → ℕ → List ℕ → ℕ → Step
+unfoldable pub stepOf : (ℕ → ℕ → Bool) → ℕ → List ℕ → ℕ → Step
 stepOf before n part at = stepBy (commandOf (getD part 0 0)) before n part at
 
 -- ---- all commands

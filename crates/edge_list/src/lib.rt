@@ -53,7 +53,7 @@ pub struct Decoded {
 }
 
 // What a command does.
-pub enum Step {
+enum Step {
     Edge(Sign, usize, usize),
     Close,
     Refuse(Fault),

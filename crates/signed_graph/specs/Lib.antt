@@ -2,3 +2,4 @@ pub mod Graphs
 pub mod Soundness
 pub mod Calls
 pub mod Rows
+pub mod Samples
