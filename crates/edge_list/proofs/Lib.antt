@@ -1,12 +1,13 @@
+pub mod Cases
 pub mod Edges
 pub mod Tables
 pub mod Steps
-pub mod Decoding
 pub mod Openings
+pub mod Decoding
 pub mod Acceptance
 pub mod Canonical
 pub mod Rows
-pub mod Buffers
 pub mod Longest
+pub mod Buffers
+pub mod Encoding
 pub mod RoundTrips
-pub mod Cases
