@@ -255,5 +255,6 @@ pub one-form : (n : ℕ) (es fs : List Edge) (form form′ : List ℕ) → Canon
     → ((s : Sign) (p q : ℕ) → givenAs s es p q ≡ givenAs s fs p q) → form ≡ form′
 one-form n es fs form form′ c d same =
     c .spelled
-    ∙ ap (listOf n) (ordered-unique (c .edges) (d .edges) (c .ordered) (d .ordered) (λ s p q. c .same s p q ∙ same s p q ∙ sym (d .same s p q)))
+    ∙ ap (listOf n) (ordered-unique (c .edges) (d .edges) (c .ordered) (d .ordered)
+    (λ s p q. c .same s p q ∙ same s p q ∙ sym (d .same s p q)))
     ∙ sym (d .spelled)

@@ -24,13 +24,20 @@ refusal bytes = report (decoded bytes .outcome)
 -- the list of document 01 for graph A
 abbrev listA : List ℕ
 listA =
-    0x10 ∷ 0x05 ∷ 0x21 ∷ 0x00 ∷ 0x01 ∷ 0x22 ∷ 0x00 ∷ 0x02 ∷ 0x22 ∷ 0x00 ∷ 0x03 ∷ 0x21 ∷ 0x00 ∷ 0x04 ∷ 0x22 ∷ 0x01 ∷ 0x02 ∷ 0x22 ∷ 0x01 ∷ 0x03 ∷ 0x21 ∷ 0x02 ∷ 0x03 ∷ 0x22 ∷ 0x02 ∷ 0x04 ∷ 0xff ∷ []
+    0x10 ∷ 0x05 ∷
+    0x21 ∷ 0x00 ∷ 0x01 ∷ 0x22 ∷ 0x00 ∷ 0x02 ∷ 0x22 ∷ 0x00 ∷ 0x03 ∷ 0x21 ∷ 0x00 ∷ 0x04 ∷
+    0x22 ∷ 0x01 ∷ 0x02 ∷ 0x22 ∷ 0x01 ∷ 0x03 ∷ 0x21 ∷ 0x02 ∷ 0x03 ∷ 0x22 ∷ 0x02 ∷ 0x04 ∷
+    0xff ∷ []
 
 -- the same edges backwards, each turned round
 abbrev turnedA : List ℕ
 turnedA =
-    0x10 ∷ 0x05 ∷ 0x22 ∷ 0x04 ∷ 0x02 ∷ 0x21 ∷ 0x02 ∷ 0x03 ∷ 0x22 ∷ 0x03 ∷ 0x01 ∷ 0x22 ∷ 0x02 ∷ 0x01 ∷ 0x21 ∷ 0x04 ∷ 0x00 ∷ 0x22 ∷ 0x03 ∷ 0x00 ∷ 0x22 ∷ 0x02 ∷ 0x00 ∷ 0x21 ∷ 0x01 ∷ 0x00 ∷ 0xff ∷ []
+    0x10 ∷ 0x05 ∷
+    0x22 ∷ 0x04 ∷ 0x02 ∷ 0x21 ∷ 0x03 ∷ 0x02 ∷ 0x22 ∷ 0x03 ∷ 0x01 ∷ 0x22 ∷ 0x02 ∷ 0x01 ∷
+    0x21 ∷ 0x04 ∷ 0x00 ∷ 0x22 ∷ 0x03 ∷ 0x00 ∷ 0x22 ∷ 0x02 ∷ 0x00 ∷ 0x21 ∷ 0x01 ∷ 0x00 ∷
+    0xff ∷ []
 
+-- the books that document 01 tries, in its order
 pub record Books : Type 0 where
   pub good-0 : decoded (0x10 ∷ 0x00 ∷ 0xff ∷ []) ≡ accepted (edgeless 0)
   pub short-4 : refusal (0x10 ∷ []) ≡ (4, 0)
@@ -45,10 +52,23 @@ pub record Books : Type 0 where
 
 pub books : Books
 unfolding decoded decodedFrom stepOf stepBy edgeStep commandOf any tableOf edgeless R.gather S.collect
-books = record { good-0 = refl; short-4 = refl; many-2 = refl; good-64 = refl; cut-4 = refl; range-5 = refl; loop-6 = refl; again-7 = refl; unclosed-8 = refl; behind-9 = refl }
+books =
+    record {
+      good-0 = refl;
+      short-4 = refl;
+      many-2 = refl;
+      good-64 = refl;
+      cut-4 = refl;
+      range-5 = refl;
+      loop-6 = refl;
+      again-7 = refl;
+      unclosed-8 = refl;
+      behind-9 = refl;
+    }
 
+-- an empty list and a wrong opening; a second opening; FF is a byte like others in an operand's place; which check comes first
 pub record Readings : Type 0 where
-  pub empty-1 : refusal ([]) ≡ (1, 0)
+  pub empty-1 : refusal [] ≡ (1, 0)
   pub first-1 : refusal (0x11 ∷ 0x00 ∷ 0xff ∷ []) ≡ (1, 0)
   pub opening-again-3 : refusal (0x10 ∷ 0x02 ∷ 0x10 ∷ 0x02 ∷ 0xff ∷ []) ≡ (3, 2)
   pub unclosed-at-once-8 : refusal (0x10 ∷ 0x02 ∷ []) ≡ (8, 2)
@@ -60,7 +80,18 @@ pub record Readings : Type 0 where
 
 pub readings : Readings
 unfolding decoded decodedFrom stepOf stepBy edgeStep commandOf any tableOf edgeless R.gather S.collect
-readings = record { empty-1 = refl; first-1 = refl; opening-again-3 = refl; unclosed-at-once-8 = refl; ff-operand-5 = refl; ff-operand-4 = refl; cut-before-range = refl; range-before-loop = refl; closed-twice-9 = refl }
+readings =
+    record {
+      empty-1 = refl;
+      first-1 = refl;
+      opening-again-3 = refl;
+      unclosed-at-once-8 = refl;
+      ff-operand-5 = refl;
+      ff-operand-4 = refl;
+      cut-before-range = refl;
+      range-before-loop = refl;
+      closed-twice-9 = refl;
+    }
 
 pub record GraphA : Type 0 where
   pub reads : decoded listA ≡ accepted sampleA

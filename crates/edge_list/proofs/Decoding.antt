@@ -49,12 +49,12 @@ module _ (n : ℕ) (es : List Edge) (part : List ℕ) (at : ℕ) where
       due [] h = absurd (omega arith)
       due (c ∷ rest) h = refl
 
-  pub after-edge : {s : Sign} {a b : ℕ} → stepOf (given es) n part at ≡ Step′.Edge s a b
+  pub after-edge : {s : Sign} {a b : ℕ} → 0 < length part → stepOf (given es) n part at ≡ Step′.Edge s a b
       → decodedFrom n es 0 part at ≡ decodedFrom n (es ++ link s a b ∷ []) 0 (drop 3 part) (at + 3)
-  after-edge {s} {a} {b} e =
-      let room : 3 ≤ length part = edge-given (given es) n part at e .room in
+  after-edge {s} {a} {b} some e =
+      let room : 3 ≤ length part = edge-given (given es) n part at some e .room in
       let place : suc at + 2 ≡ at + 3 = omega arith in
-      next-command (omega arith) e
+      next-command some e
       ∙ passed-over n (es ++ link s a b ∷ []) 2 (drop 1 part) (suc at) (omega (arith, length-drop 1 part))
       ∙ ap₂ (decodedFrom n (es ++ link s a b ∷ []) 0) (drop-drop 2 1 part) place
 
@@ -69,7 +69,8 @@ pub record Reached (bytes : List ℕ) (n : ℕ) (graph : SignedGraph) (at : ℕ)
   pub same : graph ≡ graphOf n edges
   pub ahead : decodedFrom n [] 0 (drop 2 bytes) 2 ≡ decodedFrom n edges 0 (drop at bytes) at
 
-pub reached-begin : (bytes : List ℕ) (n : ℕ) (graph : SignedGraph) → n ≤ 64 → 2 ≤ length bytes → graph ≡ edgeless n → Reached bytes n graph 2
+pub reached-begin : (bytes : List ℕ) (n : ℕ) (graph : SignedGraph) → n ≤ 64 → 2 ≤ length bytes → graph ≡ edgeless n
+    → Reached bytes n graph 2
 unfolding proper
 reached-begin bytes n graph h l e =
     record { edges = []; small = h; inside = l; ok = refl; same = e ∙ edgeless-graph n h; ahead = refl }
@@ -97,8 +98,11 @@ module _ {bytes : List ℕ} {n : ℕ} {graph : SignedGraph} {at : ℕ} {x : Step
       n (drop at bytes) at)
       ∙ ap (λ (part : List ℕ). stepOf (partners (graph .positive) (graph .negative)) n part at) (sym (part-is bytes at)) ∙ sym e
 
+  some : 0 < length (drop at bytes)
+  some = omega (arith, length-drop at bytes)
+
   goes-on : {y : Step} → x ≡ y → decodedFrom n [] 0 (drop 2 bytes) 2 ≡ follow y n (r .edges) (onward n (r .edges) (drop at bytes) at)
-  goes-on c = r .ahead ∙ next-command n (r .edges) (drop at bytes) at (omega (arith, length-drop at bytes)) (told ∙ c)
+  goes-on c = r .ahead ∙ next-command n (r .edges) (drop at bytes) at some (told ∙ c)
 
   pub reached-close : x ≡ Step′.Close → decodedFrom n [] 0 (drop 2 bytes) 2 ≡ accepted graph
   reached-close c = goes-on c ∙ ap accepted (sym (r .same))
@@ -108,7 +112,7 @@ module _ {bytes : List ℕ} {n : ℕ} {graph : SignedGraph} {at : ℕ} {x : Step
 
   module _ {s : Sign} {a b : ℕ} (c : x ≡ Step′.Edge s a b) where
     step : Given (given (r .edges)) n (drop at bytes) s a b
-    step = edge-given (given (r .edges)) n (drop at bytes) at (told ∙ c)
+    step = edge-given (given (r .edges)) n (drop at bytes) at some (told ∙ c)
 
     pub reached-low : (a < 64) × (b < 64)
     reached-low = (omega (arith, step .low-a, r .small), omega (arith, step .low-b, r .small))
@@ -126,7 +130,7 @@ module _ {bytes : List ℕ} {n : ℕ} {graph : SignedGraph} {at : ℕ} {x : Step
               (record { low-a = step .low-a; low-b = step .low-b; two = step .two; new = step .new });
           same = same;
           ahead =
-              r .ahead ∙ after-edge n (r .edges) (drop at bytes) at (told ∙ c)
+              r .ahead ∙ after-edge n (r .edges) (drop at bytes) at some (told ∙ c)
               ∙ ap (λ (part : List ℕ). decodedFrom n (r .edges ++ link s a b ∷ []) 0 part (at + 3)) (drop-drop 3 at bytes);
         }
 

@@ -4,7 +4,7 @@ pub mod Tables
 pub mod Steps
 pub mod Openings
 pub mod Decoding
-pub mod Acceptance
+pub mod Answers
 pub mod Canonical
 pub mod Rows
 pub mod Longest

@@ -18,7 +18,7 @@ use Rattle.edge_list.specs.Acceptance.{EdgeListOf}
 use Rattle.edge_list.specs.Decoding.{accepted, decoded}
 use Rattle.edge_list.specs.Canonical.{CanonicalForm, edgesOf, canonical}
 use Rattle.edge_list.specs.Encoding.{encoded, buffered, lengthOf}
-use Rattle.edge_list.proofs.Acceptance.{accepted-words, list-accepted, accepted-sound, accepted-positive, accepted-negative}
+use Rattle.edge_list.proofs.Answers.{accepted-words, list-accepted, accepted-sound, accepted-positive, accepted-negative}
 use Rattle.edge_list.proofs.Canonical.{edges-ordered, edges-given, edges-graph, edges-proper, one-form}
 
 -- ---- the canonical form is an edge list of its graph

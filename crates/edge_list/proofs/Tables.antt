@@ -151,7 +151,8 @@ module _ (s : Sign) (es : List Edge) (a b : ℕ) (la : a < 64) (lb : b < 64) whe
       (with-lt (withPartner rows a b) b a room-b la (with-lt rows a b room-a lb fits))
       (λ p q l k.
       mem-with (withPartner rows a b) b a room-b p q
-      ∙ ap (λ (z : Bool). z || eqb b p && eqb a q) (mem-with rows a b room-a p q ∙ ap (λ (z : Bool). z || eqb a p && eqb b q) (table-at s es p q l k))
+      ∙ ap (λ (z : Bool). z || eqb b p && eqb a q)
+      (mem-with rows a b room-a p q ∙ ap (λ (z : Bool). z || eqb a p && eqb b q) (table-at s es p q l k))
       ∙ or-assoc (givenAs s es p q) (eqb a p && eqb b q) (eqb b p && eqb a q)
       ∙ ap (λ (z : Bool). givenAs s es p q || (eqb a p && eqb b q || z)) (and-comm (eqb b p) (eqb a q))
       ∙ ap (λ (z : Bool). givenAs s es p q || z && joins p q (link s a b)) (sym (same-self s))

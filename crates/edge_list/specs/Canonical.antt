@@ -1,4 +1,4 @@
--- The canonical form (document 01: the plain form): each edge once, lower vertex first, ascending by lower, then higher vertex. Assumes nothing.
+-- The canonical form (document 01: the plain form): each edge once, lower vertex first, edges ascending. Assumes nothing.
 use Prim.Native.Nat.{ℕ, suc, _-_}
 use mathlib.Core.Path.{_≡_}
 use mathlib.Core.Bool.{Bool, true, false, _&&_, _||_}

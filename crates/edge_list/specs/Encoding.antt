@@ -18,12 +18,16 @@ encoded g room =
     orElse provided (ltb room (length (canonical g))) BufferTooShort
     orElse Written (length (canonical g))
 
--- the buffer behind the call: the canonical form and then the bytes that stood there; untouched by a refusal
+-- a buffer with these bytes at its front, and behind them what stood there
+abbrev pub overwritten : List ℕ → List ℕ → List ℕ
+overwritten bytes out = bytes ++ drop (length bytes) out
+
+-- the buffer behind the call; a refusal leaves it as it was
 unfoldable pub buffered : SignedGraph → List ℕ → List ℕ
 buffered g out =
     provided (not (sound g)) out
     orElse provided (ltb (length out) (length (canonical g))) out
-    orElse canonical g ++ drop (length (canonical g)) out
+    orElse overwritten (canonical g) out
 
 -- document 01's number of each answer, and the length that it gives
 abbrev pub numberOf : Encoded → ℕ

@@ -2,7 +2,7 @@
 use signed_graph::SignedGraph;
 ghost use mathlib.Core.Path.{_≡_};
 ghost use mathlib.Core.Bool.{true};
-ghost use mathlib.Core.List.{[], _∷_, _++_};
+ghost use mathlib.Core.List.{[], _∷_};
 ghost use Prim.Native.Nat.{_+_, _^_, _≤_, _<_};
 ghost use lib.ListN.{length, drop};
 ghost use Rattle.vertex_set.specs.Sets.{mem};
@@ -12,7 +12,7 @@ ghost use Rattle.edge_list.specs.Faults as faults;
 ghost use Rattle.edge_list.specs.Decoding.{refused, edgeStep, stepOf, decodedFrom, decoded};
 ghost use Rattle.edge_list.specs.Canonical.{edgesOf, canonical};
 ghost use Rattle.edge_list.specs.Encoding as encoding;
-ghost use Rattle.edge_list.specs.Encoding.{encoded, buffered};
+ghost use Rattle.edge_list.specs.Encoding.{encoded, overwritten, buffered};
 ghost use Rattle.edge_list.specs.Tables.{partners, joined, membersAbove, signBy, edgesTo};
 
 pub enum Sign {
@@ -300,7 +300,7 @@ fn edge_command(positive: u64, q: usize) -> u8
 // Writes a command and its operands.
 fn put_command(command: u8, p: usize, q: usize, out: &mut [u8])
     requires { ⌜ (p < 64) × (q < 64) × (3 ≤ length (now out)) ⌝ }
-    ensures { λ _. ⌜ now (out .exit) ≡ (command ∷ p ∷ q ∷ []) ++ drop 3 (now (out .entry)) ⌝ }
+    ensures { λ _. ⌜ now (out .exit) ≡ overwritten (command ∷ p ∷ q ∷ []) (now (out .entry)) ⌝ }
 {
     out[0] = command;
     out[1] = p as u8;
@@ -311,7 +311,7 @@ fn put_command(command: u8, p: usize, q: usize, out: &mut [u8])
 fn put_edges(positive: u64, s: u64, p: usize, out: &mut [u8]) -> usize
     requires { ⌜ (p < 64) × (length (bytesOf (edgesTo positive s p)) ≤ length (now out)) ⌝ }
     ensures length { λ r. ⌜ r ≡ length (bytesOf (edgesTo positive s p)) ⌝ }
-    ensures bytes { λ r. ⌜ now (out .exit) ≡ bytesOf (edgesTo positive s p) ++ drop (length (bytesOf (edgesTo positive s p))) (now (out .entry)) ⌝ }
+    ensures bytes { λ r. ⌜ now (out .exit) ≡ overwritten (bytesOf (edgesTo positive s p)) (now (out .entry)) ⌝ }
 {
     let mut left = s;
     let mut at: usize = 0;
@@ -329,7 +329,7 @@ fn put_edges(positive: u64, s: u64, p: usize, out: &mut [u8]) -> usize
 fn put_rows(g: SignedGraph, out: &mut [u8]) -> usize
     requires { ⌜ (sound g ≡ true) × (length (bytesOf (edgesOf g)) ≤ length (now out)) ⌝ }
     ensures length { λ r. ⌜ r ≡ length (bytesOf (edgesOf g)) ⌝ }
-    ensures bytes { λ r. ⌜ now (out .exit) ≡ bytesOf (edgesOf g) ++ drop (length (bytesOf (edgesOf g))) (now (out .entry)) ⌝ }
+    ensures bytes { λ r. ⌜ now (out .exit) ≡ overwritten (bytesOf (edgesOf g)) (now (out .entry)) ⌝ }
 {
     let n = g.n as usize;
     let mut at: usize = 0;
@@ -347,7 +347,7 @@ fn put_rows(g: SignedGraph, out: &mut [u8]) -> usize
 // Writes the canonical form of a sound graph.
 fn put_canonical(g: SignedGraph, out: &mut [u8])
     requires { ⌜ (sound g ≡ true) × (length (canonical g) ≤ length (now out)) ⌝ }
-    ensures { λ _. ⌜ now (out .exit) ≡ canonical g ++ drop (length (canonical g)) (now (out .entry)) ⌝ }
+    ensures { λ _. ⌜ now (out .exit) ≡ overwritten (canonical g) (now (out .entry)) ⌝ }
 {
     out[0] = 0x10;
     out[1] = g.n as u8;

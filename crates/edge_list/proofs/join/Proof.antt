@@ -10,7 +10,9 @@ returns : tie.Need-returns
 unfolding joined
 returns c =
     let b = c .before .before .before .before in
-    rw (c .before .before .single .ensures ∙ single-pow (b .args .b) (b .pre .1), c .single2 .ensures ∙ single-pow (b .args .a) (b .pre .0)) refl
+    let x = c .before .before .single .ensures ∙ single-pow (b .args .b) (b .pre .1) in
+    let y = c .single2 .ensures ∙ single-pow (b .args .a) (b .pre .0) in
+    rw (x, y) refl
 
 pub join-spec : {M : Type 1} → statement M
 join-spec =
