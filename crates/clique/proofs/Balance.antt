@@ -12,7 +12,7 @@ use lib.Pow.{pow-mono}
 use borrow.Author.Tests.{ltb-true, eqb-true, eq-eqb, ne-eqb, not-true}
 use Rattle.vertex_set.specs.Ranges.{all}
 use Rattle.vertex_set.specs.Sets.{mem, Subset, collect, lowest}
-use Rattle.vertex_set.proofs.Booleans.{clash, cases, and-intro, and-left, and-right, fails-left, fails-right, or-left, or-right, or-cases, neither-left, neither-right, imp-intro, imp-elim, beq-eq, eq-beq, beq-ne, ne-beq, beq-true, beq-false, beq-comm, beq-nots}
+use Rattle.vertex_set.proofs.Booleans.{clash, refute, cases, and-intro, and-left, and-right, fails-left, fails-right, or-left, or-right, or-cases, neither-left, neither-right, imp-intro, imp-elim, beq-eq, eq-beq, beq-ne, ne-beq, beq-true, beq-false, beq-comm, beq-nots}
 use Rattle.vertex_set.proofs.Ranges.{all-at, all-of}
 use Rattle.vertex_set.proofs.Membership.{mem-lt, mem-pos, mem-and, mem-ext, lt-of-members, subset-and, and-subset}
 use Rattle.vertex_set.proofs.Collections.{mem-part, collect-lt}
@@ -86,7 +86,7 @@ module _ (g : SignedGraph) (so : Sound g) where
   split-swap {s} {l} {r} sp =
       record {
         either = λ p. sp .either p ∙ or-comm (mem p l) (mem p r);
-        one = λ p m. cases (mem p l ≡ false) (mem p l) (λ x. clash (mem p r) m (sp .one p x)) (λ x. x);
+        one = λ p m. refute (mem p l) (λ x. clash (mem p r) m (sp .one p x));
         inside-l = sp .inside-r;
         inside-r = sp .inside-l;
         across = λ p q x y. so .negatives .symmetric p q ∙ sp .across q p y x;

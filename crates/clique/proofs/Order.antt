@@ -14,7 +14,7 @@ use borrow.Author.Tests.{ltb-true, lt-ltb, ne-eqb, not-true, not-false}
 use Rattle.vertex_set.specs.Lists.{All, Sorted}
 use Rattle.vertex_set.specs.Sets.{mem, insert, lowest}
 use Rattle.vertex_set.proofs.Lists.{all-append, all-imp, sorted-append}
-use Rattle.vertex_set.proofs.Booleans.{clash, cases, and-intro, and-left, and-right, beq-eq, eq-beq, beq-ne}
+use Rattle.vertex_set.proofs.Booleans.{clash, refute, cases, and-intro, and-left, and-right, beq-eq, eq-beq, beq-ne}
 use Rattle.vertex_set.proofs.Membership.{mem-past, mem-xor, mem-ext}
 use Rattle.vertex_set.proofs.Collections.{mem-insert, insert-in}
 use Rattle.vertex_set.proofs.LowestVertex.{lowest-hit, lowest-least, lowest-is}
@@ -68,9 +68,8 @@ module _ (a b : ℕ) where
 
 pub irreflexive : (a : ℕ) → precedes a a ≡ false
 irreflexive a =
-    cases (precedes a a ≡ false) (precedes a a)
+    refute (precedes a a)
     (λ e. let h : Before a a (difference a a) = to-before a a e in clash (mem (difference a a) a) (h .held) (h .lacked))
-    (λ e. e)
 
 pub transitive : (a b c : ℕ) → precedes a b ≡ true → precedes b c ≡ true → precedes a c ≡ true
 transitive a b c x y = go (decLt d e) (decLt e d)
@@ -107,7 +106,7 @@ transitive a b c x y = go (decLt d e) (decLt e d)
 
 pub asymmetric : (a b : ℕ) → precedes a b ≡ true → precedes b a ≡ false
 asymmetric a b x =
-    cases (precedes b a ≡ false) (precedes b a) (λ y. clash (precedes a a) (transitive a b a x y) (irreflexive a)) (λ y. y)
+    refute (precedes b a) (λ y. clash (precedes a a) (transitive a b a x y) (irreflexive a))
 
 pub total : (a b : ℕ) → a < 2 ^ 64 → b < 2 ^ 64 → a ≢ b → (precedes a b ≡ true) ⊎ (precedes b a ≡ true)
 total a b ha hb ne = go (decLt d 64)

@@ -13,7 +13,7 @@ use borrow.Author.Tests.{ltb-true, lt-ltb, eqb-true, eq-eqb}
 use Rattle.vertex_set.specs.Lists.{All, Sorted}
 use Rattle.vertex_set.specs.Ranges.{gather}
 use Rattle.vertex_set.specs.Sets.{mem}
-use Rattle.vertex_set.proofs.Booleans.{clash, cases, iff, and-intro, and-left, and-right, or-left, or-right, or-cases}
+use Rattle.vertex_set.proofs.Booleans.{clash, refute, iff, and-intro, and-left, and-right, or-left, or-right, or-cases}
 use Rattle.vertex_set.proofs.Lists.{all-mem, mem-all, sorted-unique}
 use Rattle.vertex_set.proofs.Gathering.{gather-mem, mem-gather, gather-sorted}
 use Rattle.signed_graph.specs.declared.SignedGraph.{SignedGraph}
@@ -42,14 +42,11 @@ before-means s t a b c d e =
 
 before-asymmetric : (e f : Edge) → before e f ≡ true → before f e ≡ false
 before-asymmetric (link s a b) (link t c d) h =
-    cases (before (link t c d) (link s a b) ≡ false) (before (link t c d) (link s a b)) (λ k. absurd (both k)) (λ k. k)
-  where
-    both : before (link t c d) (link s a b) ≡ true → ⊥
-    both k =
-        let u = before-means s t a b c d h in
-        let v = before-means t s c d a b k in
-        let same : a ≡ c = omega (arith, u .0, v .0) in
-        omega (arith, u .1 same, v .1 (sym same))
+    refute (before (link t c d) (link s a b)) (λ k.
+    let u = before-means s t a b c d h in
+    let v = before-means t s c d a b k in
+    let same : a ≡ c = omega (arith, u .0, v .0) in
+    omega (arith, u .1 same, v .1 (sym same)))
 
 -- ---- the edges of a graph are in order
 
@@ -145,7 +142,7 @@ module _ (g : SignedGraph) (h : Sound g) where
   between-has Negative p q e = rw (other, e) (List·Memᴰ·head refl)
     where
       other : positiveEdge g p q ≡ false
-      other = cases (positiveEdge g p q ≡ false) (positiveEdge g p q) (λ t. clash (negativeEdge g p q) e (h .apart p q t)) (λ t. t)
+      other = refute (positiveEdge g p q) (λ t. clash (negativeEdge g p q) e (h .apart p q t))
 
   had-given : (s : Sign) (p q : ℕ) → p < q → edgeAs s g p q ≡ true → givenAs s (edgesOf g) p q ≡ true
   unfolding edgesOf
@@ -214,9 +211,7 @@ ordered-proper n (link s a b ∷ es) l o k =
         joins-cases ⊥ a b t c d j (λ x y. omega (arith, after .1 (sym x))) (λ x y. omega (arith, lt))
 
     new : given es a b ≡ false
-    new =
-        cases (given es a b ≡ false) (given es a b)
-        (λ t. let r = any-mem (joins a b) es t in absurd (later (r .0) (r .1) (r .2))) (λ t. t)
+    new = refute (given es a b) (λ t. let r = any-mem (joins a b) es t in later (r .0) (r .1) (r .2))
 
 pub edges-proper : (g : SignedGraph) → proper (g .n) (edgesOf g) ≡ true
 edges-proper g =

@@ -7,7 +7,7 @@ use mathlib.Core.Bool.{Bool, true, false, not, _&&_, _||_, or-comm, or-assoc, an
 use mathlib.Core.List.{List, [], _∷_, _++_, List·Memᴰ, List·Memᴰ·head, List·Memᴰ·tail}
 use lib.Dec.{ltb, eqb}
 use borrow.Author.Tests.{ltb-true, lt-ltb, eqb-true, eqb-false, eq-eqb, ne-eqb, not-true}
-use Rattle.vertex_set.proofs.Booleans.{clash, cases, iff, and-intro, and-left, and-right, or-left, or-right, or-cases, neither-left, neither-right}
+use Rattle.vertex_set.proofs.Booleans.{clash, refute, iff, and-intro, and-left, and-right, or-left, or-right, or-cases, neither-left, neither-right}
 use Rattle.edge_list.specs.declared.Sign.{Sign}
 use Rattle.edge_list.specs.declared.Sign.the-variants.{Positive, Negative}
 use Rattle.edge_list.specs.Edges.{Edge, link, sameSign, joins, joinsAs, any, given, givenAs, proper}
@@ -228,11 +228,9 @@ module _ (n : ℕ) where
   one-sign [] e p q g = refl
   one-sign (link Positive a b ∷ es) e p q g =
       or-cases (givenAs Negative es p q ≡ false) (joins p q (link Positive a b)) (givenAs Positive es p q) g
-      (λ j. cases (givenAs Negative es p q ≡ false) (givenAs Negative es p q)
-      (λ t. absurd (none-other Positive Negative es a b e p q j t)) (λ t. t))
+      (λ j. refute (givenAs Negative es p q) (none-other Positive Negative es a b e p q j))
       (one-sign es (proper-rest n Positive a b es e) p q)
   one-sign (link Negative a b ∷ es) e p q g =
       ap₂ (λ (x y : Bool). x || y)
-      (cases (joins p q (link Negative a b) ≡ false) (joins p q (link Negative a b))
-      (λ j. absurd (none-other Negative Positive es a b e p q j g)) (λ t. t))
+      (refute (joins p q (link Negative a b)) (λ j. none-other Negative Positive es a b e p q j g))
       (one-sign es (proper-rest n Negative a b es e) p q g)

@@ -19,7 +19,7 @@ use Rattle.edge_list.specs.declared.Fault.the-variants.{NoOpening, TooMa
 use Rattle.edge_list.specs.declared.Step.{Step}
 use Rattle.edge_list.specs.declared.Step.the-variants.{Edge, Close, Refuse}
 use Rattle.edge_list.specs.Edges.{commandByte}
-use Rattle.edge_list.specs.Faults.{GivesEdge, FaultAt}
+use Rattle.edge_list.specs.Faults.{EdgeByte, GivesEdge, FaultAt}
 use Rattle.edge_list.specs.Decoding.{Command, gives, closes, unknown, commandOf, edgeStep, stepBy, stepOf}
 
 -- ---- the command byte
@@ -54,7 +54,7 @@ module _ (before : ℕ → ℕ → Bool) (n : ℕ) (part : List ℕ) where
   Means at Close = (getD part 0 0 ≡ 0xff) × (length part ≤ 1)
   Means at (Refuse f) = FaultAt before n part at f
 
-  byte-cases : (s : Sign) → getD part 0 0 ≡ commandByte s → (getD part 0 0 ≡ 0x21) ⊎ (getD part 0 0 ≡ 0x22)
+  byte-cases : (s : Sign) → getD part 0 0 ≡ commandByte s → EdgeByte part
   byte-cases Positive e = inl e
   byte-cases Negative e = inr e
 
@@ -199,7 +199,7 @@ module _ (before : ℕ → ℕ → Bool) (n : ℕ) (part : List ℕ) (at : ℕ) 
 
 module _ (before : ℕ → ℕ → Bool) (n : ℕ) (part : List ℕ) (at : ℕ) where
   -- from the checks of an edge to the command
-  edge-says : (x : Step) → (getD part 0 0 ≡ 0x21) ⊎ (getD part 0 0 ≡ 0x22) → ((s : Sign) → x ≡ edgeStep before n s part at)
+  edge-says : (x : Step) → EdgeByte part → ((s : Sign) → x ≡ edgeStep before n s part at)
       → x ≡ stepOf before n part at
   edge-says x (inl e) h = h Positive ∙ at-21 before n part at e
   edge-says x (inr e) h = h Negative ∙ at-22 before n part at e

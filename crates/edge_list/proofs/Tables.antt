@@ -13,7 +13,7 @@ use lib.Bits.{or-lt}
 use lib.Pow.{pow-pos, pow-lt}
 use borrow.Author.Tests.{le-leb, eq-eqb, ne-eqb}
 use Rattle.vertex_set.specs.Sets.{mem, insert}
-use Rattle.vertex_set.proofs.Booleans.{cases, fails-left}
+use Rattle.vertex_set.proofs.Booleans.{refute, fails-left}
 use Rattle.vertex_set.proofs.Ranges.{length-each, getD-each}
 use Rattle.vertex_set.proofs.Membership.{mem-none, mem-past, mem-ext, lt-of-members}
 use Rattle.vertex_set.proofs.Collections.{collect-lt, collect-at, mem-insert}
@@ -28,13 +28,16 @@ use Rattle.edge_list.proofs.Edges.{any-snoc, eqb-comm, as-comm, given-s
 
 -- ---- the rows of a table
 
-pub table-length : (s : Sign) (es : List Edge) → length (tableOf s es) ≡ 64
+table-length : (s : Sign) (es : List Edge) → length (tableOf s es) ≡ 64
 unfolding tableOf
 table-length s es = length-each (rowOf s es) 64 0
 
-pub table-row : (s : Sign) (es : List Edge) (p : ℕ) → p < 64 → getD (tableOf s es) p 0 ≡ rowOf s es p
+table-row : (s : Sign) (es : List Edge) (p : ℕ) → p < 64 → getD (tableOf s es) p 0 ≡ rowOf s es p
 unfolding tableOf
 table-row s es p h = getD-each (rowOf s es) 64 0 p 0 h ∙ ap (rowOf s es) (zero-add p)
+
+row-lt : (s : Sign) (es : List Edge) (p : ℕ) → p < 64 → getD (tableOf s es) p 0 < 2 ^ 64
+row-lt s es p h = subst (λ (z : ℕ). z < 2 ^ 64) (sym (table-row s es p h)) (collect-lt (givenAs s es p) 64)
 
 table-at : (s : Sign) (es : List Edge) (p q : ℕ) → p < 64 → q < 64 → mem q (getD (tableOf s es) p 0) ≡ givenAs s es p q
 table-at s es p q h k = ap (mem q) (table-row s es p h) ∙ collect-at (givenAs s es p) 64 q k
@@ -45,16 +48,12 @@ pub table-is : (s : Sign) (es : List Edge) (rows : List ℕ) → length rows ≡
 table-is s es rows long fits same =
     ext-getD 0 rows (tableOf s es) (long ∙ sym (table-length s es)) (λ p h.
     let l : p < 64 = omega (arith, long) in
-    mem-ext 64 (getD rows p 0) (getD (tableOf s es) p 0) (fits p l)
-    (subst (λ (z : ℕ). z < 2 ^ 64) (sym (table-row s es p l)) (collect-lt (givenAs s es p) 64))
-    (λ q k. same p q l k ∙ sym (table-at s es p q l k)))
+    mem-ext 64 (getD rows p 0) (getD (tableOf s es) p 0) (fits p l) (row-lt s es p l) (λ q k. same p q l k ∙ sym (table-at s es p q l k)))
 
 -- edges that join the same vertices give the same table
-pub table-cong : (s t : Sign) (es fs : List Edge) → ((p q : ℕ) → givenAs s es p q ≡ givenAs t fs p q) → tableOf s es ≡ tableOf t fs
+table-cong : (s t : Sign) (es fs : List Edge) → ((p q : ℕ) → givenAs s es p q ≡ givenAs t fs p q) → tableOf s es ≡ tableOf t fs
 table-cong s t es fs same =
-    table-is t fs (tableOf s es) (table-length s es)
-    (λ p l. subst (λ (z : ℕ). z < 2 ^ 64) (sym (table-row s es p l)) (collect-lt (givenAs s es p) 64))
-    (λ p q l k. table-at s es p q l k ∙ same p q)
+    table-is t fs (tableOf s es) (table-length s es) (row-lt s es) (λ p q l k. table-at s es p q l k ∙ same p q)
 
 -- ---- the graph of a proper list is sound, and has its edges
 
@@ -67,19 +66,16 @@ module _ (n : ℕ) (es : List Edge) (small : n ≤ 64) (ok : proper n es ≡ tru
   table-given s p q = go (decLt p 64) (decLt q 64)
     where
       absent : (p < n → q < n → ⊥) → givenAs s es p q ≡ false
-      absent h =
-          cases (givenAs s es p q ≡ false) (givenAs s es p q) (λ t. absurd (h (low s p q t .0) (low s p q t .1))) (λ t. t)
+      absent h = refute (givenAs s es p q) (λ t. h (low s p q t .0) (low s p q t .1))
 
       go : Dec (p < 64) → Dec (q < 64) → mem q (getD (tableOf s es) p 0) ≡ givenAs s es p q
       go (yes x) (yes y) = table-at s es p q x y
       go (yes x) (no y) =
-          mem-past 64 q (getD (tableOf s es) p 0)
-          (subst (λ (z : ℕ). z < 2 ^ 64) (sym (table-row s es p x)) (collect-lt (givenAs s es p) 64)) (omega arith)
-          ∙ sym (absent (λ a b. omega arith))
+          mem-past 64 q (getD (tableOf s es) p 0) (row-lt s es p x) (omega arith) ∙ sym (absent (λ a b. omega arith))
       go (no x) y =
           ap (mem q) (past-row (tableOf s es) p (table-length s es) (omega arith)) ∙ mem-none q ∙ sym (absent (λ a b. omega arith))
 
-  pub table-sound : (s : Sign) → Table n (tableOf s es)
+  table-sound : (s : Sign) → Table n (tableOf s es)
   table-sound s =
       to-table n (tableOf s es) small (table-length s es)
       (λ p h. lt-of-members n (getD (tableOf s es) p 0) (λ q m. low s p q (sym (table-given s p q) ∙ m) .1))
@@ -87,9 +83,7 @@ module _ (n : ℕ) (es : List Edge) (small : n ≤ 64) (ok : proper n es ≡ tru
       (λ p q h k. table-given s p q ∙ as-comm s es p q ∙ sym (table-given s q p))
     where
       self : (p : ℕ) → givenAs s es p p ≡ false
-      self p =
-          cases (givenAs s es p p ≡ false) (givenAs s es p p)
-          (λ t. absurd (proper-joins n es ok p p (as-given s es p p t) .2 refl)) (λ t. t)
+      self p = refute (givenAs s es p p) (λ t. proper-joins n es ok p p (as-given s es p p t) .2 refl)
 
   pub graph-sound : Sound (graphOf n es)
   graph-sound =
@@ -148,7 +142,7 @@ module _ (s : Sign) (es : List Edge) (a b : ℕ) (la : a < 64) (lb : b < 64) whe
   joined-table =
       table-is s (es ++ link s a b ∷ []) (withPartner (withPartner rows a b) b a)
       (length-set (withPartner rows a b) b (insert a (getD (withPartner rows a b) b 0)) ∙ long)
-      (with-lt (withPartner rows a b) b a room-b la (with-lt rows a b room-a lb fits))
+      (with-lt (withPartner rows a b) b a room-b la (with-lt rows a b room-a lb (row-lt s es)))
       (λ p q l k.
       mem-with (withPartner rows a b) b a room-b p q
       ∙ ap (λ (z : Bool). z || eqb b p && eqb a q)
@@ -166,9 +160,6 @@ module _ (s : Sign) (es : List Edge) (a b : ℕ) (la : a < 64) (lb : b < 64) whe
 
       room-b : b < length (withPartner rows a b)
       room-b = omega (arith, long)
-
-      fits : (p : ℕ) → p < 64 → getD rows p 0 < 2 ^ 64
-      fits p l = subst (λ (z : ℕ). z < 2 ^ 64) (sym (table-row s es p l)) (collect-lt (givenAs s es p) 64)
 
 -- in the table of the other sign
 other-table : (s t : Sign) (es : List Edge) (a b : ℕ) → sameSign t s ≡ false → tableOf t es ≡ tableOf t (es ++ link s a b ∷ [])

@@ -11,9 +11,12 @@ use Rattle.edge_list.specs.Edges.{Edge, given, proper, bytesOf}
 
 -- ---- the rows
 
--- 21 a b or 22 a b, whole
+-- the command byte of an edge; 21 a b or 22 a b, whole
+abbrev pub EdgeByte : List ℕ → Type 0
+EdgeByte part = (getD part 0 0 ≡ 0x21) ⊎ (getD part 0 0 ≡ 0x22)
+
 pub record GivesEdge (part : List ℕ) : Type 0 where
-  pub byte : (getD part 0 0 ≡ 0x21) ⊎ (getD part 0 0 ≡ 0x22)
+  pub byte : EdgeByte part
   pub whole : 3 ≤ length part
 
 -- `part` is what follows from the place `at` on, where a command is due, in a list of n vertices; `before` tells of two
@@ -23,7 +26,7 @@ abbrev pub FaultAt : (ℕ → ℕ → Bool) → ℕ → List ℕ → ℕ → Fau
 FaultAt before n part at (UnknownCommand i) =
     (i ≡ at) × (0 < length part) × (getD part 0 0 ≢ 0x21) × (getD part 0 0 ≢ 0x22) × (getD part 0 0 ≢ 0xff)
 -- 4: the list ends inside a command
-FaultAt before n part at (Truncated i) = (i ≡ at) × ((getD part 0 0 ≡ 0x21) ⊎ (getD part 0 0 ≡ 0x22)) × (length part < 3)
+FaultAt before n part at (Truncated i) = (i ≡ at) × EdgeByte part × (length part < 3)
 -- 5: an operand is n or higher
 FaultAt before n part at (OutOfRange i) = (i ≡ at) × GivesEdge part × ((n ≤ getD part 1 0) ⊎ (n ≤ getD part 2 0))
 -- 6: the operands are equal

@@ -12,7 +12,7 @@ use lib.Pow.{pow-pos}
 use borrow.Author.Tests.{leb-true, eqb-true, le-leb, eq-eqb, not-true}
 use Rattle.vertex_set.specs.Ranges.{all}
 use Rattle.vertex_set.specs.Sets.{mem, lowest}
-use Rattle.vertex_set.proofs.Booleans.{clash, cases, iff, and-intro, and-left, and-right, not-both, and-other, imp-intro, imp-elim}
+use Rattle.vertex_set.proofs.Booleans.{clash, refute, iff, and-intro, and-left, and-right, not-both, and-other, imp-intro, imp-elim}
 use Rattle.vertex_set.proofs.Ranges.{all-at, all-of, all-fails}
 use Rattle.vertex_set.proofs.Membership.{mem-none, mem-and, mem-ext}
 use Rattle.vertex_set.proofs.LowestVertex.{rest, lowest-lt}
@@ -145,4 +145,4 @@ module _ (g : SignedGraph) where
 
   pub too-many : 64 < g .n → sound g ≡ false
   too-many h =
-      cases (sound g ≡ false) (sound g) (λ t. let s : g .n ≤ 64 = to-sound g t .small in absurd (omega arith)) (λ t. t)
+      refute (sound g) (λ t. let s : g .n ≤ 64 = to-sound g t .small in omega arith)

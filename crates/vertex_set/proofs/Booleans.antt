@@ -12,6 +12,10 @@ pub cases : (A : Type 0) (b : Bool) → (b ≡ true → A) → (b ≡ false → 
 cases A true t f = t refl
 cases A false t f = f refl
 
+-- a test that cannot pass fails
+pub refute : (b : Bool) → (b ≡ true → ⊥) → b ≡ false
+refute b h = cases (b ≡ false) b (λ t. absurd (h t)) (λ t. t)
+
 -- tests that pass together are equal
 pub iff : (a b : Bool) → (a ≡ true → b ≡ true) → (b ≡ true → a ≡ true) → a ≡ b
 iff true b f g = sym (f refl)

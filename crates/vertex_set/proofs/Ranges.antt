@@ -12,7 +12,7 @@ use lib.Dec.{ltb, eqb}
 use lib.ListN.{length, getD, length-append}
 use borrow.Author.Tests.{ltb-true, ltb-false, ne-eqb, eq-eqb}
 use Rattle.vertex_set.specs.Ranges.{bit, all, count, seek, gather}
-use Rattle.vertex_set.proofs.Booleans.{clash, cases, and-intro, and-left, and-right, fails-right}
+use Rattle.vertex_set.proofs.Booleans.{clash, refute, and-intro, and-left, and-right, fails-right}
 
 last : {n p : ℕ} → p < suc n → p ≢ n → p < n
 last h e = omega arith
@@ -43,7 +43,7 @@ module _ (f : ℕ → Bool) where
   all-end n p a b e = let same : p ≡ n = omega arith in subst (λ (z : ℕ). all z f ≡ true) same e
 
   pub all-fails : (n p : ℕ) → p < n → f p ≡ false → all n f ≡ false
-  all-fails n p h e = cases (all n f ≡ false) (all n f) (λ t. clash (f p) (all-at n t p h) e) (λ t. t)
+  all-fails n p h e = refute (all n f) (λ t. clash (f p) (all-at n t p h) e)
 
 -- ---- count
 
@@ -85,8 +85,7 @@ module _ (f : ℕ → Bool) where
   count-none (suc n) e p h = go (ℕ-discrete p n) (λ (k : p < n). count-none n (omega arith) p k)
     where
       go : Dec (p ≡ n) → (p < n → f p ≡ false) → f p ≡ false
-      go (yes x) r =
-          cases (f p ≡ false) (f p) (λ t. absurd (let z : bit (f n) ≡ 1 = ap bit (ap f (sym x) ∙ t) in omega arith)) (λ t. t)
+      go (yes x) r = refute (f p) (λ t. let z : bit (f n) ≡ 1 = ap bit (ap f (sym x) ∙ t) in omega arith)
       go (no x) r = r (last h x)
 
   -- without one that passes: one fewer
@@ -164,10 +163,9 @@ module _ (f : ℕ → Bool) where
 
     pub none-seek : ((j : ℕ) → i ≤ j → j < n → f j ≡ false) → ltb (seek d i f) n ≡ false
     none-seek h =
-        cases (ltb (seek d i f) n ≡ false) (ltb (seek d i f) n)
-        (λ t. let l : seek d i f < n = ltb-true (seek d i f) n t in
+        refute (ltb (seek d i f) n) (λ t.
+        let l : seek d i f < n = ltb-true (seek d i f) n t in
         clash (f (seek d i f)) (found d i .hit (omega arith)) (h (seek d i f) (found d i .low) l))
-        (λ t. t)
 
 -- ---- gather
 
