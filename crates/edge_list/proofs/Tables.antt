@@ -7,9 +7,9 @@ use mathlib.Core.Path.{_≡_, refl, sym, ap, ap₂, _∙_, subst}
 use mathlib.Core.Bool.{Bool, true, false, _&&_, _||_, or-false, or-assoc, and-comm}
 use mathlib.Core.List.{List, [], _∷_, _++_}
 use lib.Dec.{eqb}
-use lib.ListN.{length, getD, length-set, replicate, length-replicate, getD-replicate}
+use lib.ListN.{length, getD, set, length-set, replicate, length-replicate, getD-replicate}
 use lib.Seq.{getD-set-same, getD-set-other, ext-getD}
-use lib.Bits.{or-lt}
+use lib.Bits.{bitOr, or-lt}
 use lib.Pow.{pow-pos, pow-lt}
 use borrow.Author.Tests.{le-leb, eq-eqb, ne-eqb}
 use Rattle.vertex_set.specs.Sets.{mem, insert}
@@ -131,6 +131,13 @@ module _ (rows : List ℕ) (x y : ℕ) (room : x < length rows) where
       go : Dec (p ≡ x) → getD (withPartner rows x y) p 0 < 2 ^ 64
       go (yes e) = subst (λ (z : ℕ). z < 2 ^ 64) (sym (row-here p e)) (or-lt 64 (getD rows p 0) (2 ^ y) (fits p l) (pow-lt h))
       go (no e) = subst (λ (z : ℕ). z < 2 ^ 64) (sym (row-there p e)) (fits p l)
+
+-- as the code stores it
+pub joined-is : (rows : List ℕ) (a b x y : ℕ) → x ≡ 2 ^ b → y ≡ 2 ^ a
+    → set (set rows a (bitOr (getD rows a 0) x)) b (bitOr (getD (set rows a (bitOr (getD rows a 0) x)) b 0) y) ≡ joined rows a b
+unfolding joined
+joined-is rows a b x y e f =
+    ap₂ (λ (u v : ℕ). set (set rows a (bitOr (getD rows a 0) u)) b (bitOr (getD (set rows a (bitOr (getD rows a 0) u)) b 0) v)) e f
 
 module _ (s : Sign) (es : List Edge) (a b : ℕ) (la : a < 64) (lb : b < 64) where
   abbrev rows : List ℕ
