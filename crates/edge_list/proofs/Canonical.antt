@@ -14,7 +14,7 @@ use Rattle.vertex_set.specs.Lists.{All, Sorted}
 use Rattle.vertex_set.specs.Ranges.{gather}
 use Rattle.vertex_set.specs.Sets.{mem}
 use Rattle.vertex_set.proofs.Booleans.{clash, refute, iff, and-intro, and-left, and-right, or-left, or-right, or-cases}
-use Rattle.vertex_set.proofs.Lists.{all-mem, mem-all, sorted-unique}
+use Rattle.vertex_set.proofs.Lists.{all-mem, mem-all, sorted-unique, any-mem, mem-any}
 use Rattle.vertex_set.proofs.Gathering.{gather-mem, mem-gather, gather-sorted}
 use Rattle.signed_graph.specs.declared.SignedGraph.{SignedGraph}
 use Rattle.signed_graph.specs.Graphs.{positiveEdge, negativeEdge}
@@ -23,7 +23,7 @@ use Rattle.edge_list.specs.declared.Sign.{Sign}
 use Rattle.edge_list.specs.declared.Sign.the-variants.{Positive, Negative}
 use Rattle.edge_list.specs.Edges.{Edge, link, sameSign, joins, joinsAs, given, givenAs, proper, tableOf, graphOf, listOf}
 use Rattle.edge_list.specs.Canonical.{lowerFirst, before, Ordered, CanonicalForm, edgeBy, edgeBetween, edgesAbove, edgesOf}
-use Rattle.edge_list.proofs.Edges.{any-mem, mem-any, joins-cases, as-comm, proper-cons}
+use Rattle.edge_list.proofs.Edges.{joins-cases, as-comm, proper-cons}
 use Rattle.edge_list.proofs.Tables.{same-self, table-is}
 
 -- g has an edge of that sign

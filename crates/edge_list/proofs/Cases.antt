@@ -4,11 +4,12 @@ use mathlib.Core.Path.{_≡_, refl}
 use mathlib.Core.List.{List, [], _∷_}
 use Rattle.vertex_set.specs.Ranges as R
 use Rattle.vertex_set.specs.Sets as S
+use Rattle.vertex_set.specs.Lists.{any}
 use Rattle.signed_graph.specs.Graphs.{edgeless}
 use Rattle.signed_graph.specs.Samples.{sampleA}
 use Rattle.edge_list.specs.declared.Outcome.{Outcome}
 use Rattle.edge_list.specs.declared.Outcome.the-variants.{Accepted, Refused}
-use Rattle.edge_list.specs.Edges.{any, tableOf, bytesOf}
+use Rattle.edge_list.specs.Edges.{tableOf, bytesOf}
 use Rattle.edge_list.specs.Faults.{numberOf, placeOf}
 use Rattle.edge_list.specs.Decoding.{accepted, commandOf, edgeStep, stepBy, stepOf, decodedFrom, decoded}
 use Rattle.edge_list.specs.Canonical.{edgesOf, canonical}

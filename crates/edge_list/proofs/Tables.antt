@@ -13,18 +13,20 @@ use lib.Bits.{bitOr, or-lt}
 use lib.Pow.{pow-pos, pow-lt}
 use borrow.Author.Tests.{le-leb, eq-eqb, ne-eqb}
 use Rattle.vertex_set.specs.Sets.{mem, insert}
-use Rattle.vertex_set.proofs.Booleans.{refute, fails-left}
+use Rattle.vertex_set.proofs.Booleans.{refute, fails-left, eqb-comm}
 use Rattle.vertex_set.proofs.Ranges.{length-each, getD-each}
 use Rattle.vertex_set.proofs.Membership.{mem-none, mem-past, mem-ext, lt-of-members}
 use Rattle.vertex_set.proofs.Collections.{collect-lt, collect-at, mem-insert}
+use Rattle.vertex_set.proofs.Lists.{any-snoc}
+use Rattle.vertex_set.specs.Lists.{any}
 use Rattle.signed_graph.specs.declared.SignedGraph.{SignedGraph}
 use Rattle.signed_graph.specs.Graphs.{edgeless}
 use Rattle.signed_graph.proofs.Soundness.{Table, to-table, past-row, Sound}
 use Rattle.edge_list.specs.declared.Sign.{Sign}
 use Rattle.edge_list.specs.declared.Sign.the-variants.{Positive, Negative}
-use Rattle.edge_list.specs.Edges.{Edge, link, sameSign, joins, joinsAs, any, given, givenAs, proper, rowOf, tableOf, graphOf}
+use Rattle.edge_list.specs.Edges.{Edge, link, sameSign, joins, joinsAs, given, givenAs, proper, rowOf, tableOf, graphOf}
 use Rattle.edge_list.specs.Tables.{partners, withPartner, joined}
-use Rattle.edge_list.proofs.Edges.{any-snoc, eqb-comm, as-comm, given-signs, as-given, proper-joins, one-sign}
+use Rattle.edge_list.proofs.Edges.{as-comm, given-signs, as-given, proper-joins, one-sign}
 
 -- ---- the rows of a table
 

@@ -3,6 +3,7 @@ use Prim.Native.Nat.{ℕ}
 use mathlib.Core.Bool.{Bool, true, false, not, _&&_, _||_}
 use mathlib.Core.List.{List, [], _∷_, _++_}
 use lib.Dec.{ltb, eqb}
+use Rattle.vertex_set.specs.Lists.{any}
 use Rattle.vertex_set.specs.Ranges.{gather}
 use Rattle.vertex_set.specs.Sets.{collect}
 use Rattle.signed_graph.specs.declared.SignedGraph.{SignedGraph}
@@ -27,11 +28,6 @@ joins p q (link s a b) = eqb a p && eqb b q || eqb a q && eqb b p
 
 abbrev pub joinsAs : Sign → ℕ → ℕ → Edge → Bool
 joinsAs t p q (link s a b) = sameSign t s && joins p q (link s a b)
-
--- one of the edges passes the test f
-unfoldable pub any : (Edge → Bool) → List Edge → Bool
-any f [] = false
-any f (e ∷ es) = f e || any f es
 
 -- one of the edges joins p and q (document 01: the pair is given); one of the sign s does
 abbrev pub given : List Edge → ℕ → ℕ → Bool

@@ -9,18 +9,6 @@ ghost use lib.ListN.{length, getD};
 // What each byte of a buffer is before a graph is encoded into it.
 const FILL: u8 = 0xaa;
 
-// A digit in hexadecimal.
-fn digit(d: u8) -> u8
-    requires { ⌜ d < 16 ⌝ }
-{
-    if d < 10 { b'0' + d } else { b'A' + (d - 10) }
-}
-
-fn print_byte(b: u8) {
-    let text = [digit(b / 16), digit(b % 16)];
-    io::write_all(1, &text);
-}
-
 // Prints bytes in hexadecimal, with a space between.
 fn print_bytes(bytes: &[u8]) {
     let mut i: usize = 0;
@@ -28,7 +16,7 @@ fn print_bytes(bytes: &[u8]) {
         if 0 < i {
             io::write_all(1, b" ");
         }
-        print_byte(bytes[i]);
+        io::print_hex(1, bytes[i] as u64, 2);
         i += 1;
     }
 }

@@ -2,6 +2,8 @@
 use Prim.Native.Nat.{ℕ}
 use native.Mathlib.Omega.{arith}
 use mathlib.Core.Path.{_≡_, refl, sym, ap, ap₂, _∙_}
+use lib.Dec.{eqb}
+use borrow.Author.Tests.{eqb-true, eq-eqb}
 use mathlib.Core.Bool.{Bool, true, false, not, _&&_, _||_, Bool·beq, Bool·not-not}
 
 -- no test both passes and fails
@@ -124,3 +126,8 @@ beq-not false b = beq-true b ∙ sym (Bool·not-not b) ∙ ap not (sym (beq-fals
 
 pub beq-nots : (a b : Bool) → Bool·beq (not a) (not b) ≡ Bool·beq a b
 beq-nots a b = beq-not a (not b) ∙ ap not (beq-comm a (not b) ∙ beq-not b a) ∙ Bool·not-not (Bool·beq b a) ∙ beq-comm b a
+
+-- ---- equal numbers
+
+pub eqb-comm : (a b : ℕ) → eqb a b ≡ eqb b a
+eqb-comm a b = iff (eqb a b) (eqb b a) (λ e. eq-eqb b a (sym (eqb-true a b e))) (λ e. eq-eqb a b (sym (eqb-true b a e)))

@@ -1,10 +1,10 @@
--- Laws of `All`, `select` and `Sorted`; sorted lists with the same elements are equal. Assumes nothing.
+-- Laws of `All`, `any`, `select` and `Sorted`; sorted lists with the same elements are equal. Assumes nothing.
 use mathlib.Core.Path.{_≡_, refl, sym, ap, ap₂, _∙_, subst}
 use mathlib.Core.Logic.{_⊎_, inl, inr}
-use mathlib.Core.Bool.{Bool, true, false}
+use mathlib.Core.Bool.{Bool, true, false, _||_, or-assoc, or-false}
 use mathlib.Core.List.{List, [], _∷_, _++_, List·Memᴰ, List·Memᴰ·head, List·Memᴰ·tail, List·Memᴰ·not-nil, List·Memᴰ·cases-cons}
-use Rattle.vertex_set.specs.Lists.{All, select, Sorted}
-use Rattle.vertex_set.proofs.Booleans.{clash}
+use Rattle.vertex_set.specs.Lists.{All, any, select, Sorted}
+use Rattle.vertex_set.proofs.Booleans.{clash, or-left, or-right}
 
 module _ {A : Type 0} where
   pub all-append : (P : A → Type 0) (a b : List A) → All P a → All P b → All P (a ++ b)
@@ -23,6 +23,39 @@ module _ {A : Type 0} where
   pub all-imp : (P Q : A → Type 0) → ((x : A) → P x → Q x) → (l : List A) → All P l → All Q l
   all-imp P Q f [] h = tt
   all-imp P Q f (x ∷ l) h = (f x (h .0), all-imp P Q f l (h .1))
+
+-- ---- any
+
+module _ {A : Type 0} (f : A → Bool) where
+  pub any-append : (k l : List A) → any f (k ++ l) ≡ (any f k || any f l)
+  unfolding any
+  any-append [] l = refl
+  any-append (x ∷ k) l = ap (λ (b : Bool). f x || b) (any-append k l) ∙ sym (or-assoc (f x) (any f k) (any f l))
+
+  -- with one element more at the end
+  pub any-snoc : (l : List A) (x : A) → any f (l ++ x ∷ []) ≡ (any f l || f x)
+  unfolding any
+  any-snoc l x = any-append l (x ∷ []) ∙ ap (λ (b : Bool). any f l || b) (or-false (f x))
+
+  pub any-mem : (l : List A) → any f l ≡ true → (x : A) × List·Memᴰ x l × (f x ≡ true)
+  unfolding any
+  any-mem [] h = clash false h refl
+  any-mem (y ∷ l) h = go (f y) refl (any-mem l)
+    where
+      go : (b : Bool) → f y ≡ b → (any f l ≡ true → (x : A) × List·Memᴰ x l × (f x ≡ true))
+          → (x : A) × List·Memᴰ x (y ∷ l) × (f x ≡ true)
+      go true t ih = (y, List·Memᴰ·head refl, t)
+      go false t ih = let r = ih (sym (ap (λ (b : Bool). b || any f l) t) ∙ h) in (r .0, List·Memᴰ·tail (r .1), r .2)
+
+  pub mem-any : (x : A) (l : List A) → List·Memᴰ x l → f x ≡ true → any f l ≡ true
+  unfolding any
+  mem-any x l (List·Memᴰ·head {x = y} {xs = k} q) t = or-left (f y) (any f k) (ap f (sym q) ∙ t)
+  mem-any x l (List·Memᴰ·tail {x = y} {xs = k} m) t = or-right (f y) (any f k) (mem-any x k m t)
+
+pub any-cong : {A : Type 0} (f g : A → Bool) → ((x : A) → f x ≡ g x) → (l : List A) → any f l ≡ any g l
+unfolding any
+any-cong f g h [] = refl
+any-cong f g h (x ∷ l) = ap₂ (λ (a b : Bool). a || b) (h x) (any-cong f g h l)
 
 -- ---- select
 

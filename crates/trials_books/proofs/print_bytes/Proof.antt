@@ -1,5 +1,6 @@
 -- `trials_books::print_bytes` is safe and ends. The measure is what is left of the slice. Assumes nothing.
 use Prim.Native.Nat.{_-_}
+use native.Mathlib.Omega.{arith}
 use borrow.Author.Needs.{needs}
 use lib.ListN.{length}
 use Rattle.trials_books.proofs.print_bytes.Statement.{statement}
@@ -11,6 +12,9 @@ Inv-loop bytes i₀ t3 i = Unit {0}
 abbrev μ-loop : tie.MeasureT-loop
 μ-loop bytes i₀ t3 i = length bytes - i
 
+cast-print-hex : tie.Need-cast-print-hex Inv-loop μ-loop
+cast-print-hex c = omega (arith, c .shared-slice-known2 .given (c .before .before .before .loop .i))
+
 pub print-bytes-spec : {M : Type 1} → statement M
 print-bytes-spec =
     tie.close
@@ -21,6 +25,7 @@ print-bytes-spec =
     (λ c. search needs)
     (λ c κs. search needs)
     (λ c. search needs)
+    cast-print-hex
     (λ c κs. search needs)
     (λ c. search needs)
     (λ c. search needs)
