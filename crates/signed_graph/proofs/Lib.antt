@@ -1,3 +1,5 @@
 pub mod Soundness
+pub mod Tables
+pub mod EdgeCounts
 pub mod Calls
 mod RowChecks

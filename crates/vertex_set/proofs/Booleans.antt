@@ -53,6 +53,11 @@ pub and-other : (a b : Bool) → (a && b) ≡ false → a ≡ true → b ≡ fal
 and-other true b e h = e
 and-other false b e h = clash false h refl
 
+-- what stands beside a test counts only where it passes
+pub and-same : (a b c : Bool) → (a ≡ true → b ≡ c) → (a && b) ≡ (a && c)
+and-same true b c h = h refl
+and-same false b c h = refl
+
 -- ---- or
 
 pub or-left : (a b : Bool) → a ≡ true → (a || b) ≡ true

@@ -147,11 +147,16 @@ mem-ext (suc k) a b ha hb h =
         digits2 (λ (x y : ℕ). eqb x 1 ≡ eqb y 1 → x ≡ y)
         (λ e. refl) (λ e. absurd (false≢true e)) (λ e. absurd (false≢true (sym e))) (λ e. refl)
 
--- ---- subsets, as `a & b == a` tests them
-
 lt-pow : (s : ℕ) → s < 2 ^ s
 lt-pow zero = pow-pos 0
 lt-pow (suc s) = omega (arith, lt-pow s, two-pow-succ s)
+
+-- with no bound on the sets
+pub set-ext : (a b : ℕ) → ((p : ℕ) → mem p a ≡ mem p b) → a ≡ b
+set-ext a b h =
+    mem-ext (a + b) a b (lt-of-lt-of-le (lt-pow a) (pow-mono (omega arith))) (lt-of-lt-of-le (lt-pow b) (pow-mono (omega arith))) (λ p l. h p)
+
+-- ---- subsets, as `a & b == a` tests them
 
 pub subset-and : (a b : ℕ) → Subset a b → bitAnd a b ≡ a
 subset-and a b s =

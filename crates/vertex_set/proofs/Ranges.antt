@@ -1,4 +1,4 @@
--- Laws of `all`, `count`, `seek` and `gather` over a range of numbers. Assumes nothing.
+-- Laws of `all`, `count`, `sum`, `seek` and `gather` over a range of numbers. Assumes nothing.
 use Prim.Native.Nat.{ℕ, zero, suc, _+_, _-_, _≤_, _<_}
 use native.Mathlib.Nat.{not-suc-le-zero, add-zero}
 use native.Mathlib.Numerals.{add-one}
@@ -11,7 +11,7 @@ use mathlib.Core.List.{List, [], _∷_, _++_}
 use lib.Dec.{ltb, eqb}
 use lib.ListN.{length, getD, length-append}
 use borrow.Author.Tests.{ltb-true, ltb-false, ne-eqb, eq-eqb}
-use Rattle.vertex_set.specs.Ranges.{bit, all, count, seek, gather}
+use Rattle.vertex_set.specs.Ranges.{bit, all, count, sum, seek, gather}
 use Rattle.vertex_set.proofs.Booleans.{clash, refute, and-intro, and-left, and-right, fails-right}
 
 last : {n p : ℕ} → p < suc n → p ≢ n → p < n
@@ -105,6 +105,34 @@ module _ (f : ℕ → Bool) where
       go (no x) r =
           let kept : bit (f n && not (eqb n q)) ≡ bit (f n) = ap bit (ap (λ (b : Bool). f n && not b) (ne-eqb n q x) ∙ and-true (f n)) in
           omega (arith, r (omega arith))
+
+-- a test that passes less often counts fewer
+pub count-less : (f g : ℕ → Bool) (n q : ℕ) → ((p : ℕ) → p < n → f p ≡ true → g p ≡ true) → q < n → f q ≡ false → g q ≡ true
+    → count n f < count n g
+count-less f g n q h l out here =
+    omega (
+      arith,
+      count-without g n q l here,
+      count-mono f (λ p. g p && not (eqb p q)) n (λ p k e.
+          and-intro (g p) (not (eqb p q)) (h p k e) (ap not (ne-eqb p q (λ x. clash (f p) e (ap f x ∙ out))))),
+    )
+
+-- ---- sum
+
+module _ (f g : ℕ → ℕ) where
+  pub sum-mono : (n : ℕ) → ((p : ℕ) → p < n → f p ≤ g p) → sum n f ≤ sum n g
+  unfolding sum
+  sum-mono zero h = omega arith
+  sum-mono (suc n) h = omega (arith, sum-mono n (λ p k. h p (omega arith)), h n (omega arith))
+
+  pub sum-less : (n q : ℕ) → ((p : ℕ) → p < n → f p ≤ g p) → q < n → f q < g q → sum n f < sum n g
+  unfolding sum
+  sum-less zero q h l here = absurd (not-suc-le-zero l)
+  sum-less (suc n) q h l here = go (ℕ-discrete q n) (λ (k : q < n). sum-less n q (λ p k. h p (omega arith)) k here)
+    where
+      go : Dec (q ≡ n) → (q < n → sum n f < sum n g) → sum n f + f n < sum n g + g n
+      go (yes x) r = omega (arith, sum-mono n (λ p k. h p (omega arith)), subst (λ (z : ℕ). f z < g z) x here)
+      go (no x) r = omega (arith, r (last l x), h n (omega arith))
 
 -- ---- seek
 

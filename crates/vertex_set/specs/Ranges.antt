@@ -1,4 +1,4 @@
--- Ranges of numbers: whether all pass a test, how many pass, which is the first to pass; what they give, joined. Assumes nothing.
+-- Ranges of numbers: whether all pass a test, how many pass, which is the first to pass; what they give, added up or joined. Assumes nothing.
 use Prim.Native.Nat.{ℕ, zero, suc, _+_}
 use mathlib.Core.Bool.{Bool, true, false, _&&_}
 use mathlib.Core.List.{List, [], _++_}
@@ -17,6 +17,11 @@ all (suc n) f = let r = all n f in f n && r
 unfoldable pub count : ℕ → (ℕ → Bool) → ℕ
 count zero f = 0
 count (suc n) f = count n f + bit (f n)
+
+-- what f gives of the numbers below n, added up
+unfoldable pub sum : ℕ → (ℕ → ℕ) → ℕ
+sum zero f = 0
+sum (suc n) f = sum n f + f n
 
 -- the first of i, i + 1, .. that passes the test f; i + d if none of these d does
 unfoldable pub seek : ℕ → ℕ → (ℕ → Bool) → ℕ

@@ -1,0 +1,218 @@
+-- A graph and its reduction for k have the same groups for k, with the same sides, by the words of both alone. Assumes nothing.
+use Prim.Native.Nat.{ℕ, _+_, _-_, _^_, _≤_, _<_}
+use native.Mathlib.Nat.{sub-zero}
+use native.Mathlib.Omega.{arith}
+use mathlib.Core.Path.{_≡_, sym, ap, ap₂, _∙_, fun-ext}
+use mathlib.Core.Logic.{_≢_, ⊎-elim}
+use mathlib.Core.Bool.{Bool, true, false, not, _&&_, and-comm}
+use mathlib.Core.List.{List, [], _∷_}
+use lib.Dec.{leb, ltb, eqb}
+use lib.Bits.{bitAnd}
+use lib.ListN.{length}
+use borrow.Author.Tests.{ltb-true, leb-true, lt-ltb, le-leb, eqb-false, not-true}
+use Rattle.vertex_set.specs.Lists.{All, select}
+use Rattle.vertex_set.specs.Ranges.{count}
+use Rattle.vertex_set.specs.Sets.{mem, Subset, size}
+use Rattle.vertex_set.proofs.Booleans.{clash, refute, cases, iff, and-intro, and-left, and-right, and-other, or-left, or-right, or-cases}
+use Rattle.vertex_set.proofs.Ranges.{count-mono, count-without}
+use Rattle.vertex_set.proofs.Sizes.{size-subset}
+use Rattle.vertex_set.proofs.Membership.{mem-and}
+use Rattle.signed_graph.specs.declared.SignedGraph.{SignedGraph}
+use Rattle.signed_graph.specs.Graphs.{positiveEdge, negativeEdge, vertices}
+use Rattle.signed_graph.proofs.Soundness.{Sound}
+use Rattle.clique.specs.Balance.{Split, Balanced, Sides, left, right}
+use Rattle.clique.specs.Groups.{floor, Group}
+use Rattle.clique.specs.Order.{subsets, groups}
+use Rattle.clique.proofs.Balance.{usable-64, other-side, split-swap, split-part, split-balanced, is-left, is-right, one-split}
+use Rattle.clique.proofs.Groups.{group-words, words-group}
+use Rattle.reduction.specs.Collections.{Collection, edgesOf, Inside, atLeast, vertexFits, positiveFits, negativeFits, Fits}
+use Rattle.reduction.specs.Reductions.{Reduction}
+
+-- ---- counts
+
+-- all that pass f pass h, but for those listed: h counts at most so many fewer
+less-listed : (f h : ℕ → Bool) (n : ℕ) (l : List ℕ) → ((p : ℕ) → p < n → All (λ q. q ≢ p) l → f p ≡ true → h p ≡ true)
+    → count n f ≤ count n h + length l
+less-listed f h n [] e = omega (arith, count-mono f h n (λ p i. e p i tt))
+less-listed f h n (q ∷ l) e =
+    cases _ (ltb q n && f q)
+    (λ m.
+    let one = count-without f n q (ltb-true q n (and-left _ _ m)) (and-right (ltb q n) _ m) in
+    let rest = less-listed (λ p. f p && not (eqb p q)) h n l (λ p i d t.
+    e p i ((λ z. eqb-false p q (not-true (eqb p q) (and-right (f p) _ t)) (sym z)), d) (and-left _ _ t)) in
+    omega arith)
+    (λ m.
+    let rest = less-listed f h n l (λ p i d t.
+    e p i ((λ z. clash (f q) (ap f z ∙ t) (and-other (ltb q n) _ m (lt-ltb q n (omega arith)))), d) t) in
+    omega arith)
+
+-- the same of a set of at least k members
+enough : (k x : ℕ) (f : ℕ → Bool) (l : List ℕ) → k ≤ size x → ((p : ℕ) → All (λ q. q ≢ p) l → mem p x ≡ true → f p ≡ true)
+    → atLeast (k - length l) f ≡ true
+unfolding size atLeast
+enough k x f l h e = le-leb (k - length l) (count 64 f) (omega (arith, less-listed (λ p. mem p x) f 64 l (λ p _. e p)))
+
+size-part : (a b : ℕ) → size (bitAnd a b) ≤ size a
+size-part a b = size-subset (bitAnd a b) a (λ p m. and-left _ _ (sym (mem-and p a b) ∙ m))
+
+floor-least : (k l r : ℕ) → floor k l r ≡ true → (k ≤ l) × (k ≤ r)
+unfolding floor
+floor-least k l r e = (leb-true k l (and-left _ _ e), leb-true k r (and-right (leb k l) _ e))
+
+-- ---- the edges of a graph within a set
+
+abbrev within : SignedGraph → ℕ → Collection
+within g s =
+    record { positive = λ p q. mem p s && mem q s && positiveEdge g p q; negative = λ p q. mem p s && mem q s && negativeEdge g p q }
+
+module _ (g : SignedGraph) (so : Sound g) where
+  -- the edges of a split are among them; `split-swap` gives those of the other side
+  own : {s a b : ℕ} → Split g s a b → (p q : ℕ) → p ≢ q → mem p a ≡ true → mem q a ≡ true → within g s .positive p q ≡ true
+  own sp p q d x y = and-intro _ _ (and-intro _ _ (sp .either p ∙ or-left _ _ x) (sp .either q ∙ or-left _ _ y)) (sp .inside-l p q d x y)
+
+  far : {s a b : ℕ} → Split g s a b → (p q : ℕ) → mem p a ≡ true → mem q b ≡ true → within g s .negative p q ≡ true
+  far sp p q x y =
+      and-intro _ _ (and-intro _ _ (sp .either p ∙ or-left _ _ x) (sp .either q ∙ or-right (mem q _) _ y)) (sp .across p q x y)
+
+  -- so a graph that has them has the split
+  carried : (h : SignedGraph) {s a b : ℕ} → Inside (within g s) (edgesOf h) → Split g s a b → Split h s a b
+  carried h i sp =
+      record {
+        either = sp .either;
+        one = sp .one;
+        inside-l = λ p q d x y. i .positive p q (own sp p q d x y);
+        inside-r = λ p q d x y. i .positive p q (own (split-swap g so sp) p q d x y);
+        across = λ p q x y. i .negative p q (far sp p q x y);
+      }
+
+  module _ (k s : ℕ) where
+    -- they fit k at p: p does, and so does each of its edges
+    record FitsAt (p : ℕ) : Type 0 where
+      vertex : vertexFits k (within g s) p ≡ true
+      positive : (q : ℕ) → within g s .positive p q ≡ true → positiveFits k (within g s) p q ≡ true
+      negative : (q : ℕ) → within g s .negative p q ≡ true → negativeFits k (within g s) p q ≡ true
+
+    -- a positive edge stays on its side, and a negative one goes across
+    side-fits : {x y : ℕ} → Split g s x y → k ≤ size x → k ≤ size y → (p : ℕ) → mem p x ≡ true → FitsAt p
+    unfolding vertexFits positiveFits negativeFits
+    side-fits {x} {y} sp i j p m =
+        record {
+          vertex = and-intro _ _ (enough k x _ (p ∷ []) i (λ r d. own sp p r (d .0) m))
+              (rw sub-zero at (enough k y _ [] j (λ r _. far sp p r m)));
+          positive = λ q e.
+              let n : negativeEdge g p q ≡ false = so .apart p q (and-right (mem p s && mem q s) _ e) in
+              let o : mem q x ≡ true = other-side g so (split-swap g so sp) q (and-right (mem p s) _ (and-left _ _ e))
+              (refute (mem q y) (λ o. clash (negativeEdge g p q) (sp .across p q m o) n)) in
+              and-intro _ _ (enough k x _ (p ∷ q ∷ []) i (λ r d l. and-intro _ _ (own sp p r (d .0) m l) (own sp q r (d .1 .0) o l)))
+              (rw sub-zero at (enough k y _ [] j (λ r _ l. and-intro _ _ (far sp p r m l) (far sp q r o l))));
+          negative = λ q e.
+              let n : negativeEdge g p q ≡ true = and-right (mem p s && mem q s) _ e in
+              let d : p ≢ q = λ z. clash (negativeEdge g p p) (ap (negativeEdge g p) z ∙ n) (so .negatives .loopless p) in
+              let o : mem q y ≡ true = other-side g so sp q (and-right (mem p s) _ (and-left _ _ e))
+              (refute (mem q x) (λ o. clash (negativeEdge g p q) n (so .apart p q (sp .inside-l p q d m o)))) in
+              and-intro _ _ (enough k x _ (p ∷ []) i (λ r d l. and-intro _ _ (own sp p r (d .0) m l) (far (split-swap g so sp) q r o l)))
+              (enough k y _ (q ∷ []) j (λ r d l. and-intro _ _ (far sp p r m l) (own (split-swap g so sp) q r (d .0) o l)));
+        }
+
+    within-fits : {a b : ℕ} → Split g s a b → k ≤ size a → k ≤ size b → Fits k (within g s)
+    within-fits {a} {b} sp i j =
+        record {
+          vertex = λ p q e.
+              fits p (or-cases _ (within g s .positive p q) (within g s .negative p q) e
+              (λ z. and-left _ _ (and-left _ _ z)) (λ z. and-left _ _ (and-left _ _ z))) .vertex;
+          positive = λ p q e. fits p (and-left _ _ (and-left _ _ e)) .positive q e;
+          negative = λ p q e. fits p (and-left _ _ (and-left _ _ e)) .negative q e;
+        }
+      where
+        fits : (p : ℕ) → mem p s ≡ true → FitsAt p
+        fits p m = cases _ (mem p a) (side-fits sp i j p) (λ e. side-fits (split-swap g so sp) j i p (other-side g so sp p m e))
+
+-- ---- a graph and its reduction
+
+-- a group of g is one of h where it is balanced, has its sides and is maximal there too
+carried-group : {g h : SignedGraph} {k s : ℕ} (x : Group g k s) → Balanced h s → Sides h s (x .left-side) (x .right-side)
+    → ((t : ℕ) → Balanced h t → Subset s t → t ≡ s) → Group h k s
+carried-group x b sides most =
+    record {
+      nonempty = x .nonempty;
+      balanced = b;
+      left-side = x .left-side;
+      right-side = x .right-side;
+      sides = sides;
+      enough = x .enough;
+      maximal = most;
+    }
+
+module _ (g r : SignedGraph) (k : ℕ) (so : Sound g) (sr : Sound r) (red : Reduction g k r) where
+  pub split-out : {s a b : ℕ} → Split r s a b → Split g s a b
+  split-out {s} sp =
+      carried r sr g (record {
+        positive = λ p q e. red .inside .positive p q (and-right (mem p s && mem q s) _ e);
+        negative = λ p q e. red .inside .negative p q (and-right (mem p s && mem q s) _ e);
+      }) sp
+
+  pub balanced-out : {s : ℕ} → Balanced r s → Balanced g s
+  unfolding vertices
+  balanced-out b = split-balanced g so (rw (red .same-n) at (b .usable)) (split-out (b .split))
+
+  pub split-in : {s a b : ℕ} → Split g s a b → k ≤ size a → k ≤ size b → Split r s a b
+  split-in {s} sp x y =
+      carried g so r
+      (red .largest (within g s)
+      (record {
+        positive = λ p q. ap₂ _&&_ (and-comm (mem p s) (mem q s)) (so .positives .symmetric p q);
+        negative = λ p q. ap₂ _&&_ (and-comm (mem p s) (mem q s)) (so .negatives .symmetric p q);
+      })
+      (record { positive = λ p q. and-right (mem p s && mem q s) _; negative = λ p q. and-right (mem p s && mem q s) _ })
+      (within-fits g so k s sp x y)) sp
+
+  pub balanced-in : {s a b : ℕ} → Balanced g s → Split g s a b → (k ≤ size a) × (k ≤ size b) → Balanced r s
+  unfolding vertices
+  balanced-in b sp f = split-balanced r sr (rw (← red .same-n) at (b .usable)) (split-in sp (f .0) (f .1))
+
+  module _ (s : ℕ) (h : Group r k s) where
+    sides-out : Sides g s (h .left-side) (h .right-side)
+    sides-out = record { split = split-out (h .sides .split); lowest-left = h .sides .lowest-left }
+
+    -- the sides of a larger set contain those of s, so they are large enough
+    wider : {t x y : ℕ} → Subset s t → Split g t x y → (k ≤ size x) × (k ≤ size y)
+    wider {t} {x} {y} w sp =
+        let f = floor-least k _ _ (h .enough) in
+        let s64 : s < 2 ^ 64 = usable-64 r sr s (h .balanced .usable) in
+        let same-l = ap size (is-left g so s _ _ s64 sides-out) in
+        let same-r = ap size (is-right g so s _ _ s64 sides-out) in
+        ⊎-elim
+        (λ e. (omega (arith, ap size (e .0), size-part x s), omega (arith, ap size (e .1), size-part y s)))
+        (λ e. (omega (arith, ap size (e .0), size-part x s), omega (arith, ap size (e .1), size-part y s)))
+        (one-split g so s (bitAnd x s) (bitAnd y s) (h .nonempty) s64 (split-part g so w sp))
+
+    pub group-out : Group g k s
+    group-out =
+        carried-group h (balanced-out (h .balanced)) sides-out (λ t b w. h .maximal t (balanced-in b (b .split) (wider w (b .split))) w)
+
+  module _ (s : ℕ) (h : Group g k s) where
+    s64 : s < 2 ^ 64
+    s64 = usable-64 g so s (h .balanced .usable)
+
+    sides-in : Sides r s (h .left-side) (h .right-side)
+    sides-in =
+        let f = floor-least k _ _ (h .enough) in
+        record { split = split-in (h .sides .split) (f .0) (f .1); lowest-left = h .sides .lowest-left }
+
+    pub group-in : Group r k s
+    group-in =
+        carried-group h (balanced-in (h .balanced) (h .sides .split) (floor-least k _ _ (h .enough))) sides-in
+        (λ t b w. h .maximal t (balanced-out b) w)
+
+    pub same-left : left r s ≡ left g s
+    same-left = sym (is-left r sr s _ _ s64 sides-in) ∙ is-left g so s _ _ s64 (h .sides)
+
+    pub same-right : right r s ≡ right g s
+    same-right = sym (is-right r sr s _ _ s64 sides-in) ∙ is-right g so s _ _ s64 (h .sides)
+
+  pub same-groups : groups r k ≡ groups g k
+  unfolding groups
+  same-groups =
+      ap₂ (λ (f : ℕ → Bool) (n : ℕ). select f (subsets n))
+      (fun-ext (λ s. iff _ _ (λ e. words-group g so k s (group-out s (group-words r sr k s e)))
+      (λ e. words-group r sr k s (group-in s (group-words g so k s e))))) (red .same-n)
