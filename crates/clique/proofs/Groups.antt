@@ -1,13 +1,13 @@
 -- Groups: the test by single vertices says what the words say, and the list holds exactly the groups, strictly sorted. Assumes nothing.
-use Prim.Native.Nat.{ℕ, _<_}
+use Prim.Native.Nat.{ℕ, _≤_, _<_}
 use native.Mathlib.Omega.{arith}
 use native.Mathlib.Decide.{decLt}
 use mathlib.Core.Path.{_≡_, sym, ap, ap₂, _∙_}
 use mathlib.Core.Logic.{_↔_}
 use mathlib.Core.Bool.{Bool, true, false, not, _&&_}
 use mathlib.Core.List.{List·Memᴰ}
-use lib.Dec.{ltb, eqb}
-use borrow.Author.Tests.{ltb-true, lt-ltb, eqb-true, eq-eqb, not-true}
+use lib.Dec.{leb, ltb, eqb}
+use borrow.Author.Tests.{leb-true, ltb-true, lt-ltb, eqb-true, eq-eqb, not-true}
 use Rattle.vertex_set.specs.Lists.{Sorted}
 use Rattle.vertex_set.specs.Sets.{mem, Subset, insert, size}
 use Rattle.vertex_set.proofs.Lists.{selected, select-keeps, sorted-select}
@@ -22,6 +22,11 @@ use Rattle.clique.specs.Groups.{floor, Group, extension, isGroup}
 use Rattle.clique.specs.Order.{difference, precedes, subsets, groups}
 use Rattle.clique.proofs.Balance.{usable-lt, usable-64, balanced-words, words-balanced, balanced-sides, is-left, is-right, hereditary}
 use Rattle.clique.proofs.Order.{agree-below, differ-at, subsets-sorted, subsets-all}
+
+-- sides that are large enough have k vertices each
+pub floor-least : (k l r : ℕ) → floor k l r ≡ true → (k ≤ l) × (k ≤ r)
+unfolding floor
+floor-least k l r e = (leb-true k l (and-left _ _ e), leb-true k r (and-right (leb k l) _ e))
 
 module _ (g : SignedGraph) (so : Sound g) where
   -- ---- maximal: no single vertex extends

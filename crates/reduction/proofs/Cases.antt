@@ -1,12 +1,17 @@
--- Document 01's case T6: A reduced for 2 keeps 6 edges, and for 1 all 8. Assumes nothing.
+-- Document 01's case T6, which computes: A reduced for 2 keeps 6 edges, and for 1 all 8; its group. Assumes nothing.
 use mathlib.Core.Path.{_≡_, refl}
-use mathlib.Core.List.{_∷_}
+use mathlib.Core.List.{[], _∷_}
 use lib.ListN.{replicate}
 use Rattle.vertex_set.specs.Ranges as R
 use Rattle.vertex_set.specs.Sets as S
 use Rattle.signed_graph.specs.declared.SignedGraph.{SignedGraph}
-use Rattle.signed_graph.specs.Graphs.{edgeCount, tableOf}
+use Rattle.vertex_set.specs.Lists.{select}
+use Rattle.signed_graph.specs.Graphs.{vertices, edgeCount, tableOf}
 use Rattle.signed_graph.specs.Samples.{sampleA}
+use Rattle.clique.specs.Balance.{balanced, allAgree, left, right}
+use Rattle.clique.specs.Groups.{floor, extension, isGroup}
+use Rattle.clique.specs.Order.{choices, subsets, groups}
+use Rattle.clique.proofs.Cases.{set}
 use Rattle.reduction.specs.Collections.{atLeast, vertexFits, positiveFits, negativeFits}
 use Rattle.reduction.specs.Reductions.{round, fallen, rounds, reducedGraph}
 
@@ -28,3 +33,14 @@ pub record Reductions : Type 0 where
 pub cases-reductions : Reductions
 unfolding reducedGraph rounds round fallen vertexFits positiveFits negativeFits atLeast tableOf edgeCount R.count R.sum R.gather S.mem S.collect
 cases-reductions = record { T6 = refl; T6-edges = refl; T6-at-1 = refl; T6-at-1-edges = refl }
+
+-- its group, listed from A and from A reduced
+pub record Groups : Type 0 where
+  pub T6 : groups sampleA 2 ≡ set (0 ∷ 1 ∷ 2 ∷ 3 ∷ []) ∷ []
+  pub T6-left : left sampleA (set (0 ∷ 1 ∷ 2 ∷ 3 ∷ [])) ≡ set (0 ∷ 1 ∷ [])
+  pub T6-right : right sampleA (set (0 ∷ 1 ∷ 2 ∷ 3 ∷ [])) ≡ set (2 ∷ 3 ∷ [])
+  pub T6-reduced : groups coreA 2 ≡ set (0 ∷ 1 ∷ 2 ∷ 3 ∷ []) ∷ []
+
+pub cases-groups : Groups
+unfolding groups subsets choices select isGroup extension floor balanced allAgree left right vertices R.all R.count R.seek S.mem S.collect S.size S.lowest S.below
+cases-groups = record { T6 = refl; T6-left = refl; T6-right = refl; T6-reduced = refl }

@@ -37,12 +37,12 @@ both-more f f′ h h′ a b r e =
 module _ {c d : Collection} (i : Inside c d) (k p : ℕ) where
   pub vertex-more : vertexFits k c p ≡ true → vertexFits k d p ≡ true
   unfolding vertexFits
-  vertex-more = more-both (k - 1) k (c .positive p) (d .positive p) (c .negative p) (d .negative p) (i .positive p) (i .negative p)
+  vertex-more = more-both _ _ (c .positive p) (d .positive p) (c .negative p) (d .negative p) (i .positive p) (i .negative p)
 
   pub positive-more : (q : ℕ) → positiveFits k c p q ≡ true → positiveFits k d p q ≡ true
   unfolding positiveFits
   positive-more q =
-      more-both (k - 2) k (both (c .positive p) (c .positive q)) (both (d .positive p) (d .positive q))
+      more-both _ _ (both (c .positive p) (c .positive q)) (both (d .positive p) (d .positive q))
       (both (c .negative p) (c .negative q)) (both (d .negative p) (d .negative q))
       (both-more (c .positive p) (d .positive p) (c .positive q) (d .positive q) (i .positive p) (i .positive q))
       (both-more (c .negative p) (d .negative p) (c .negative q) (d .negative q) (i .negative p) (i .negative q))
@@ -50,7 +50,7 @@ module _ {c d : Collection} (i : Inside c d) (k p : ℕ) where
   pub negative-more : (q : ℕ) → negativeFits k c p q ≡ true → negativeFits k d p q ≡ true
   unfolding negativeFits
   negative-more q =
-      more-both (k - 1) (k - 1) (both (c .positive p) (c .negative q)) (both (d .positive p) (d .negative q))
+      more-both _ _ (both (c .positive p) (c .negative q)) (both (d .positive p) (d .negative q))
       (both (c .negative p) (c .positive q)) (both (d .negative p) (d .positive q))
       (both-more (c .positive p) (d .positive p) (c .negative q) (d .negative q) (i .positive p) (i .negative q))
       (both-more (c .negative p) (d .negative p) (c .positive q) (d .positive q) (i .negative p) (i .positive q))

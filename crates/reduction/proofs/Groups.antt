@@ -1,63 +1,41 @@
 -- A graph and its reduction for k have the same groups for k, with the same sides, by the words of both alone. Assumes nothing.
-use Prim.Native.Nat.{ℕ, _+_, _-_, _^_, _≤_, _<_}
+use Prim.Native.Nat.{ℕ, _-_, _^_, _≤_, _<_}
 use native.Mathlib.Nat.{sub-zero}
 use native.Mathlib.Omega.{arith}
-use mathlib.Core.Path.{_≡_, sym, ap, ap₂, _∙_, fun-ext}
+use mathlib.Core.Path.{_≡_, sym, ap, ap₂, _∙_, subst, fun-ext}
 use mathlib.Core.Logic.{_≢_, ⊎-elim}
-use mathlib.Core.Bool.{Bool, true, false, not, _&&_, and-comm}
+use mathlib.Core.Bool.{Bool, true, false, _&&_, and-comm}
 use mathlib.Core.List.{List, [], _∷_}
-use lib.Dec.{leb, ltb, eqb}
 use lib.Bits.{bitAnd}
 use lib.ListN.{length}
-use borrow.Author.Tests.{ltb-true, leb-true, lt-ltb, le-leb, eqb-false, not-true}
+use borrow.Author.Tests.{le-leb}
 use Rattle.vertex_set.specs.Lists.{All, select}
 use Rattle.vertex_set.specs.Ranges.{count}
 use Rattle.vertex_set.specs.Sets.{mem, Subset, size}
-use Rattle.vertex_set.proofs.Booleans.{clash, refute, cases, iff, and-intro, and-left, and-right, and-other, or-left, or-right, or-cases}
-use Rattle.vertex_set.proofs.Ranges.{count-mono, count-without}
-use Rattle.vertex_set.proofs.Sizes.{size-subset}
-use Rattle.vertex_set.proofs.Membership.{mem-and}
+use Rattle.vertex_set.proofs.Booleans.{clash, refute, cases, iff, and-intro, and-left, and-right, or-left, or-right, or-cases}
+use Rattle.vertex_set.proofs.Ranges.{count-listed}
+use Rattle.vertex_set.proofs.Sizes.{size-part}
 use Rattle.signed_graph.specs.declared.SignedGraph.{SignedGraph}
 use Rattle.signed_graph.specs.Graphs.{positiveEdge, negativeEdge, vertices}
-use Rattle.signed_graph.proofs.Soundness.{Sound}
+use Rattle.signed_graph.specs.Soundness.{sound}
+use Rattle.signed_graph.specs.Calls.{checkBy}
+use Rattle.signed_graph.proofs.Soundness.{Sound, to-sound, from-sound}
 use Rattle.clique.specs.Balance.{Split, Balanced, Sides, left, right}
-use Rattle.clique.specs.Groups.{floor, Group}
+use Rattle.clique.specs.Groups.{Group}
 use Rattle.clique.specs.Order.{subsets, groups}
 use Rattle.clique.proofs.Balance.{usable-64, other-side, split-swap, split-part, split-balanced, is-left, is-right, one-split}
-use Rattle.clique.proofs.Groups.{group-words, words-group}
+use Rattle.clique.proofs.Groups.{floor-least, group-words, words-group}
 use Rattle.reduction.specs.Collections.{Collection, edgesOf, Inside, atLeast, vertexFits, positiveFits, negativeFits, Fits}
-use Rattle.reduction.specs.Reductions.{Reduction}
+use Rattle.reduction.specs.Reductions.{Reduction, reducedGraph, answerTo, reduced}
+use Rattle.reduction.proofs.Reductions.{rounds-reduce, reduction-sound}
 
 -- ---- counts
 
--- all that pass f pass h, but for those listed: h counts at most so many fewer
-less-listed : (f h : ℕ → Bool) (n : ℕ) (l : List ℕ) → ((p : ℕ) → p < n → All (λ q. q ≢ p) l → f p ≡ true → h p ≡ true)
-    → count n f ≤ count n h + length l
-less-listed f h n [] e = omega (arith, count-mono f h n (λ p i. e p i tt))
-less-listed f h n (q ∷ l) e =
-    cases _ (ltb q n && f q)
-    (λ m.
-    let one = count-without f n q (ltb-true q n (and-left _ _ m)) (and-right (ltb q n) _ m) in
-    let rest = less-listed (λ p. f p && not (eqb p q)) h n l (λ p i d t.
-    e p i ((λ z. eqb-false p q (not-true (eqb p q) (and-right (f p) _ t)) (sym z)), d) (and-left _ _ t)) in
-    omega arith)
-    (λ m.
-    let rest = less-listed f h n l (λ p i d t.
-    e p i ((λ z. clash (f q) (ap f z ∙ t) (and-other (ltb q n) _ m (lt-ltb q n (omega arith)))), d) t) in
-    omega arith)
-
--- the same of a set of at least k members
-enough : (k x : ℕ) (f : ℕ → Bool) (l : List ℕ) → k ≤ size x → ((p : ℕ) → All (λ q. q ≢ p) l → mem p x ≡ true → f p ≡ true)
+-- all members of a set but those listed pass the test
+many : (k x : ℕ) (f : ℕ → Bool) (l : List ℕ) → k ≤ size x → ((p : ℕ) → All (λ q. q ≢ p) l → mem p x ≡ true → f p ≡ true)
     → atLeast (k - length l) f ≡ true
 unfolding size atLeast
-enough k x f l h e = le-leb (k - length l) (count 64 f) (omega (arith, less-listed (λ p. mem p x) f 64 l (λ p _. e p)))
-
-size-part : (a b : ℕ) → size (bitAnd a b) ≤ size a
-size-part a b = size-subset (bitAnd a b) a (λ p m. and-left _ _ (sym (mem-and p a b) ∙ m))
-
-floor-least : (k l r : ℕ) → floor k l r ≡ true → (k ≤ l) × (k ≤ r)
-unfolding floor
-floor-least k l r e = (leb-true k l (and-left _ _ e), leb-true k r (and-right (leb k l) _ e))
+many k x f l h e = le-leb (k - length l) (count 64 f) (omega (arith, count-listed (λ p. mem p x) f 64 l (λ p _. e p)))
 
 -- ---- the edges of a graph within a set
 
@@ -97,21 +75,21 @@ module _ (g : SignedGraph) (so : Sound g) where
     unfolding vertexFits positiveFits negativeFits
     side-fits {x} {y} sp i j p m =
         record {
-          vertex = and-intro _ _ (enough k x _ (p ∷ []) i (λ r d. own sp p r (d .0) m))
-              (rw sub-zero at (enough k y _ [] j (λ r _. far sp p r m)));
+          vertex = and-intro _ _ (many k x _ (p ∷ []) i (λ r d. own sp p r (d .0) m))
+              (rw sub-zero at (many k y _ [] j (λ r _. far sp p r m)));
           positive = λ q e.
               let n : negativeEdge g p q ≡ false = so .apart p q (and-right (mem p s && mem q s) _ e) in
               let o : mem q x ≡ true = other-side g so (split-swap g so sp) q (and-right (mem p s) _ (and-left _ _ e))
               (refute (mem q y) (λ o. clash (negativeEdge g p q) (sp .across p q m o) n)) in
-              and-intro _ _ (enough k x _ (p ∷ q ∷ []) i (λ r d l. and-intro _ _ (own sp p r (d .0) m l) (own sp q r (d .1 .0) o l)))
-              (rw sub-zero at (enough k y _ [] j (λ r _ l. and-intro _ _ (far sp p r m l) (far sp q r o l))));
+              and-intro _ _ (many k x _ (p ∷ q ∷ []) i (λ r d l. and-intro _ _ (own sp p r (d .0) m l) (own sp q r (d .1 .0) o l)))
+              (rw sub-zero at (many k y _ [] j (λ r _ l. and-intro _ _ (far sp p r m l) (far sp q r o l))));
           negative = λ q e.
               let n : negativeEdge g p q ≡ true = and-right (mem p s && mem q s) _ e in
               let d : p ≢ q = λ z. clash (negativeEdge g p p) (ap (negativeEdge g p) z ∙ n) (so .negatives .loopless p) in
               let o : mem q y ≡ true = other-side g so sp q (and-right (mem p s) _ (and-left _ _ e))
               (refute (mem q x) (λ o. clash (negativeEdge g p q) n (so .apart p q (sp .inside-l p q d m o)))) in
-              and-intro _ _ (enough k x _ (p ∷ []) i (λ r d l. and-intro _ _ (own sp p r (d .0) m l) (far (split-swap g so sp) q r o l)))
-              (enough k y _ (q ∷ []) j (λ r d l. and-intro _ _ (far sp p r m l) (own (split-swap g so sp) q r (d .0) o l)));
+              and-intro _ _ (many k x _ (p ∷ []) i (λ r d l. and-intro _ _ (own sp p r (d .0) m l) (far (split-swap g so sp) q r o l)))
+              (many k y _ (q ∷ []) j (λ r d l. and-intro _ _ (far sp p r m l) (own (split-swap g so sp) q r (d .0) o l)));
         }
 
     within-fits : {a b : ℕ} → Split g s a b → k ≤ size a → k ≤ size b → Fits k (within g s)
@@ -216,3 +194,27 @@ module _ (g r : SignedGraph) (k : ℕ) (so : Sound g) (sr : Sound r) (red : Redu
       ap₂ (λ (f : ℕ → Bool) (n : ℕ). select f (subsets n))
       (fun-ext (λ s. iff _ _ (λ e. words-group g so k s (group-out s (group-words r sr k s e)))
       (λ e. words-group r sr k s (group-in s (group-words g so k s e))))) (red .same-n)
+
+-- ---- reducing keeps the groups
+
+-- r has the groups of g for k, each once and in the same order, and each with the same sides
+pub record SameGroups (g r : SignedGraph) (k : ℕ) : Type 0 where
+  pub listed : groups r k ≡ groups g k
+  pub lefts : (s : ℕ) → Group g k s → left r s ≡ left g s
+  pub rights : (s : ℕ) → Group g k s → right r s ≡ right g s
+
+pub reduction-keeps : (g r : SignedGraph) (k : ℕ) → Sound g → Reduction g k r → SameGroups g r k
+reduction-keeps g r k so red =
+    let sr : Sound r = reduction-sound g k so red in
+    record { listed = same-groups g r k so sr red; lefts = same-left g r k so sr red; rights = same-right g r k so sr red }
+
+-- as the call answers: its graph is sound and has the groups, for every sound graph and every k that is not refused
+pub reduce-keeps : (g : SignedGraph) (k : ℕ) → sound g ≡ true → k ≤ 32
+    → (sound (reduced g k .graph) ≡ true) × SameGroups g (reduced g k .graph) k
+reduce-keeps g k e small =
+    let so : Sound g = to-sound g e in
+    let red : Reduction g k (reducedGraph g k) = rounds-reduce g k so in
+    let accepted : reducedGraph g k ≡ reduced g k .graph =
+    sym (ap₂ (λ (a b : Bool). answerTo (checkBy a b) (reducedGraph g k) .graph) e (le-leb k 32 small)) in
+    subst (λ (r : SignedGraph). (sound r ≡ true) × SameGroups g r k) accepted
+    (from-sound (reducedGraph g k) (reduction-sound g k so red), reduction-keeps g (reducedGraph g k) k so red)

@@ -1,17 +1,16 @@
 -- A round that looks only at a part of the graph is a round, where what is outside the part fits; and the vertices that
 -- lost a partner are such a part for the next. Assumes nothing.
 use Prim.Native.Nat.{ℕ, _-_, _^_, _<_}
-use native.Mathlib.Omega.{arith}
-use mathlib.Core.Path.{_≡_, refl, sym, ap, ap₂, _∙_, subst}
+use mathlib.Core.Path.{_≡_, refl, sym, ap, ap₂, _∙_}
 use mathlib.Core.Bool.{Bool, true, false, not, _&&_, _||_, cond, and-comm}
 use mathlib.Core.List.{List}
-use lib.Dec.{leb, ltb, eqb}
+use lib.Dec.{leb, eqb}
 use lib.Bits.{bitAnd, bitOr, or-lt}
 use lib.ListN.{getD}
 use borrow.Author.Tests.{lt-ltb}
 use Rattle.vertex_set.specs.Ranges.{count}
 use Rattle.vertex_set.specs.Sets.{mem, size, collect}
-use Rattle.vertex_set.proofs.Booleans.{clash, cases, and-same, or-left, or-right, or-cases, neither-left, neither-right}
+use Rattle.vertex_set.proofs.Booleans.{clash, and-same, or-left, or-right, or-cases, neither-left, neither-right}
 use Rattle.vertex_set.proofs.Ranges.{count-cong}
 use Rattle.vertex_set.proofs.Membership.{mem-none, mem-and, mem-or, mem-ones}
 use Rattle.vertex_set.proofs.Collections.{collect-lt, collect-at, collect-is}
@@ -20,10 +19,10 @@ use Rattle.signed_graph.specs.Graphs.{vertices, tableOf}
 use Rattle.signed_graph.proofs.Soundness.{Sound, partner-below, mem-vertices}
 use Rattle.signed_graph.proofs.Tables.{table-cong}
 use Rattle.reduction.specs.Collections.{Collection, edgesIn, edgesOf, atLeast, both, vertexFits, positiveFits, negativeFits}
-use Rattle.reduction.specs.Reductions.{keeps, keepsPositive, keepsNegative, round, fallen}
+use Rattle.reduction.specs.Reductions.{keepsPositive, keepsNegative, round, fallen}
 use Rattle.reduction.specs.Looks.{enough, shares, sifted, stays, keptRow, keptTable, differing, Settled}
 use Rattle.reduction.proofs.Striking.{sifted-lt, mem-sifted}
-use Rattle.reduction.proofs.Rounds.{keeps-joins, keeps-vertex, keeps-edge, round-positive, round-negative, round-inside, round-undirected, same-positive-row, same-negative-row, low}
+use Rattle.reduction.proofs.Rounds.{keeps-vertex, keeps-edge, round-positive, round-negative, round-inside, round-undirected, same-positive-row, same-negative-row, low}
 
 -- ---- a row
 

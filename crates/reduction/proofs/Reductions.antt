@@ -18,7 +18,7 @@ use Rattle.signed_graph.proofs.Soundness.{Table, Sound}
 use Rattle.signed_graph.proofs.Tables.{table-length}
 use Rattle.signed_graph.proofs.EdgeCounts.{edges-most}
 use Rattle.reduction.specs.Collections.{Collection, edgesOf, Undirected, Inside, Fits}
-use Rattle.reduction.specs.Reductions.{Reduction, keepsPositive, keepsNegative, round, fallen, rounds, reducedGraph}
+use Rattle.reduction.specs.Reductions.{Reduction, keepsPositive, keepsNegative, round, fallen, rounds, mostRounds, reducedGraph}
 use Rattle.reduction.proofs.Collections.{inside-self, inside-trans}
 use Rattle.reduction.proofs.Rounds.{round-inside, round-undirected, survives, none-fallen, falls}
 
@@ -108,7 +108,7 @@ module _ (g : SignedGraph) (k : ℕ) (so : Sound g) where
 
   pub rounds-reduce : Reduction g k (reducedGraph g k)
   unfolding reducedGraph
-  rounds-reduce = goes 2017 g between-start (omega (arith, edges-most g))
+  rounds-reduce = goes mostRounds g between-start (omega (arith, edges-most g))
 
   pub reduction-sound : {r : SignedGraph} → Reduction g k r → Sound r
   reduction-sound {r} x =

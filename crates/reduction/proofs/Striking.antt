@@ -9,11 +9,11 @@ use mathlib.Core.List.{List}
 use lib.Dec.{ltb, eqb, lit<}
 use lib.Bits.{bitAnd, and-le-l}
 use lib.ListN.{getD}
-use borrow.Author.Tests.{eqb-true, ltb-true, lt-ltb, le-ltb, eq-eqb, ne-eqb}
+use borrow.Author.Tests.{eqb-true, ltb-true, lt-ltb, le-ltb, eq-eqb}
 use Rattle.vertex_set.specs.Sets.{mem, lowest, single}
 use Rattle.vertex_set.proofs.Booleans.{iff, and-left, and-right}
 use Rattle.vertex_set.proofs.Membership.{mem-none, mem-and, mem-minus, mem-ones}
-use Rattle.vertex_set.proofs.Collections.{collect-lt, collect-at, collect-is, mem-part}
+use Rattle.vertex_set.proofs.Collections.{collect-lt, collect-at, collect-is}
 use Rattle.vertex_set.proofs.LowestVertex.{rest, rest-lt, mem-rest, lowest-in}
 use Rattle.reduction.specs.Looks.{sifted, differing}
 

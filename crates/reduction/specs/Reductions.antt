@@ -28,7 +28,7 @@ pub record Reduction (g : SignedGraph) (k : ℕ) (r : SignedGraph) : Type 0 wher
 
 -- ---- the rounds
 
--- the edge p, q is in a collection, its vertices fit and so does it: that a round keeps it, judged by c
+-- a round keeps the edge p, q: it is one of the collection's edges, its vertices fit, and so does it
 abbrev pub keeps : (ℕ → ℕ → Bool) → (ℕ → Bool) → (ℕ → ℕ → Bool) → ℕ → ℕ → Bool
 keeps joins vertex edge p q = let fits = vertex p && vertex q && edge p q in joins p q && fits
 
@@ -38,7 +38,7 @@ keepsPositive k c = keeps (c .positive) (vertexFits k c) (positiveFits k c)
 abbrev pub keepsNegative : ℕ → Collection → ℕ → ℕ → Bool
 keepsNegative k c = keeps (c .negative) (vertexFits k c) (negativeFits k c)
 
--- a round: judged by the edges at its start, each edge that fails is dropped, and all edges of a vertex that fails
+-- a round: judged by the edges at its start, each edge that does not fit is dropped, and all edges of a vertex that does not
 unfoldable pub round : SignedGraph → ℕ → SignedGraph
 round g k =
     record { n = g .n; positive = tableOf (keepsPositive k (edgesOf g)); negative = tableOf (keepsNegative k (edgesOf g)) }
@@ -55,8 +55,11 @@ rounds zero g k = g
 rounds (suc d) g k = elim (eqb (fallen g k) 0) [ true ↦ g | false ↦ rounds d (round g k) k ]
 
 -- each round but the last drops an edge, and there are at most 2,016
+abbrev pub mostRounds : ℕ
+mostRounds = 2017
+
 unfoldable pub reducedGraph : SignedGraph → ℕ → SignedGraph
-reducedGraph g k = rounds 2017 g k
+reducedGraph g k = rounds mostRounds g k
 
 -- ---- the call
 

@@ -12,6 +12,7 @@ ghost use Rattle.reduction.specs.Collections.{edgesOf};
 ghost use Rattle.reduction.specs.Reductions.{Reduction, round, fallen, reduced};
 ghost use Rattle.reduction.specs.Looks.{enough, shares, sifted, keptRow, keptTable, differing, Settled};
 
+// The set of all 64 vertices.
 const ALL: u64 = 0xffff_ffff_ffff_ffff;
 
 // The reduced graph, or why the call is refused.
@@ -75,8 +76,8 @@ fn sift<'a>(
     kept
 }
 
-// The partners a of p, in one table, that stay: p and q have to be able and, if one of them is of look,
-// a & positive[q] has to have at least x vertices and b & negative[q] at least y.
+// The row a of p without its dropped partners. A partner q stays where both are able and, if one of them is of look,
+// a & positive[q] has at least x vertices and b & negative[q] at least y.
 fn kept_row<'a>(
     p: usize,
     look: u64,
@@ -95,7 +96,7 @@ fn kept_row<'a>(
     sift(a & allowed, due, a, x, b, y, positive, negative)
 }
 
-// The table `own` with the partners that stay; `other` is the table of the other sign.
+// The table own, positive or negative, without its dropped edges, row by row; other is the table of the other sign.
 fn kept_table<'a>(
     look: u64,
     able: u64,
@@ -134,14 +135,14 @@ fn differing<'a>(a: &'a [u64; 64], b: &'a [u64; 64]) -> u64
 // What a round keeps, and the vertices that lost a partner in it.
 struct Kept {
     graph: SignedGraph,
-    lost: u64,
+    fallen: u64,
 }
 
 // A round that looks at the vertices of look and at the edges that have one of them; the others fit already.
 fn round(g: SignedGraph, k: u64, look: u64) -> Kept
     requires { ⌜ Settled k (edgesOf g) look ⌝ }
     ensures { λ r. ⌜ r .graph ≡ round g k ⌝ }
-    ensures { λ r. ⌜ r .lost ≡ fallen g k ⌝ }
+    ensures { λ r. ⌜ r .fallen ≡ fallen g k ⌝ }
 {
     let n = g.n;
     let few = less(k, 1);
@@ -167,15 +168,15 @@ fn round(g: SignedGraph, k: u64, look: u64) -> Kept
         &g.positive,
         &g.negative,
     );
-    let lost_positive = differing(&positive, &g.positive);
-    let lost_negative = differing(&negative, &g.negative);
+    let fallen_positive = differing(&positive, &g.positive);
+    let fallen_negative = differing(&negative, &g.negative);
     Kept {
         graph: SignedGraph {
             n,
             positive,
             negative,
         },
-        lost: lost_positive | lost_negative,
+        fallen: fallen_positive | fallen_negative,
     }
 }
 
@@ -188,10 +189,10 @@ fn reduce_sound(g: SignedGraph, k: u64) -> SignedGraph
     let mut kept = g;
     loop {
         let next = round(kept, k, look);
-        if next.lost == 0 {
+        if next.fallen == 0 {
             return kept;
         }
-        look = next.lost;
+        look = next.fallen;
         kept = next.graph;
     }
 }

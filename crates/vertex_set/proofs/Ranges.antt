@@ -10,9 +10,10 @@ use mathlib.Core.Bool.{Bool, true, false, not, _&&_, _||_, and-true}
 use mathlib.Core.List.{List, [], _∷_, _++_}
 use lib.Dec.{ltb, eqb}
 use lib.ListN.{length, getD, length-append}
-use borrow.Author.Tests.{ltb-true, ltb-false, ne-eqb, eq-eqb}
+use borrow.Author.Tests.{ltb-true, ltb-false, lt-ltb, eqb-false, ne-eqb, eq-eqb, not-true}
+use Rattle.vertex_set.specs.Lists.{All}
 use Rattle.vertex_set.specs.Ranges.{bit, all, count, sum, seek, gather}
-use Rattle.vertex_set.proofs.Booleans.{clash, refute, and-intro, and-left, and-right, fails-right}
+use Rattle.vertex_set.proofs.Booleans.{clash, refute, cases, and-intro, and-left, and-right, and-other, fails-right}
 
 last : {n p : ℕ} → p < suc n → p ≢ n → p < n
 last h e = omega arith
@@ -116,6 +117,22 @@ count-less f g n q h l out here =
       count-mono f (λ p. g p && not (eqb p q)) n (λ p k e.
           and-intro (g p) (not (eqb p q)) (h p k e) (ap not (ne-eqb p q (λ x. clash (f p) e (ap f x ∙ out))))),
     )
+
+-- all that pass f pass h, but for those listed: h counts at most so many fewer
+pub count-listed : (f h : ℕ → Bool) (n : ℕ) (l : List ℕ) → ((p : ℕ) → p < n → All (λ q. q ≢ p) l → f p ≡ true → h p ≡ true)
+    → count n f ≤ count n h + length l
+count-listed f h n [] e = omega (arith, count-mono f h n (λ p i. e p i tt))
+count-listed f h n (q ∷ l) e =
+    cases _ (ltb q n && f q)
+    (λ m.
+    let one = count-without f n q (ltb-true q n (and-left _ _ m)) (and-right (ltb q n) _ m) in
+    let rest = count-listed (λ p. f p && not (eqb p q)) h n l (λ p i d t.
+    e p i ((λ z. eqb-false p q (not-true (eqb p q) (and-right (f p) _ t)) (sym z)), d) (and-left _ _ t)) in
+    omega arith)
+    (λ m.
+    let rest = count-listed f h n l (λ p i d t.
+    e p i ((λ z. clash (f q) (ap f z ∙ t) (and-other (ltb q n) _ m (lt-ltb q n (omega arith)))), d) t) in
+    omega arith)
 
 -- ---- sum
 

@@ -8,12 +8,13 @@ use native.Mathlib.Omega.{arith}
 use lib.Dec.{eqb}
 use lib.Arith.{lt-one}
 use lib.Pow.{shr-lt, pow-pos}
-use lib.Bits.{bitOr}
+use lib.Bits.{bitAnd, bitOr}
 use lib.Count.{onesIn, ones, ones-step}
 use Rattle.vertex_set.specs.Ranges.{bit, count}
 use Rattle.vertex_set.specs.Sets.{mem, Subset, size}
+use Rattle.vertex_set.proofs.Booleans.{and-left}
 use Rattle.vertex_set.proofs.Ranges.{count-mono, count-cong, count-either, count-le, count-none}
-use Rattle.vertex_set.proofs.Membership.{mem-zero, mem-suc, mem-none, mem-or, mem-ext}
+use Rattle.vertex_set.proofs.Membership.{mem-zero, mem-suc, mem-none, mem-and, mem-or, mem-ext}
 
 -- ---- what the machine counts are the members
 
@@ -60,6 +61,9 @@ size-none s h e = mem-ext 64 s 0 h (pow-pos 64) (λ p l. count-none (λ p. mem p
 pub size-subset : (a b : ℕ) → Subset a b → size a ≤ size b
 unfolding size
 size-subset a b s = count-mono (λ p. mem p a) (λ p. mem p b) 64 (λ p l. s p)
+
+pub size-part : (a b : ℕ) → size (bitAnd a b) ≤ size a
+size-part a b = size-subset (bitAnd a b) a (λ p m. and-left _ _ (sym (mem-and p a b) ∙ m))
 
 -- of two sets with no common member
 pub size-union : (a b : ℕ) → ((p : ℕ) → mem p a ≡ true → mem p b ≡ false) → size (bitOr a b) ≡ size a + size b

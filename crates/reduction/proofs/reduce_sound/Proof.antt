@@ -1,7 +1,7 @@
 -- `reduction::reduce_sound` meets its contract. What is kept lies between the graph and its reduction. Assumes nothing.
-use Prim.Native.Nat.{ℕ, _<_}
+use Prim.Native.Nat.{_<_}
 use native.Mathlib.Omega.{arith}
-use mathlib.Core.Path.{_≡_, sym, _∙_, subst}
+use mathlib.Core.Path.{sym, _∙_, subst}
 use borrow.Author.Needs.{needs}
 use Rattle.signed_graph.specs.declared.SignedGraph.{SignedGraph}
 use Rattle.signed_graph.specs.Graphs.{vertices, edgeCount}
@@ -55,10 +55,10 @@ loop-again c =
     let so = to-sound g (b .pre) in
     let l = c .before .before .before .before .loop in
     let r = c .before .before .before .round in
-    let next : Settled k (edgesOf (round (l .kept) k)) (r .result .lost) =
+    let next : Settled k (edgesOf (round (l .kept) k)) (r .result .fallen) =
     subst (Settled k (edgesOf (round (l .kept) k))) (sym (r .ensures .1)) (settled-next (l .kept) k (between-sound g k so (l .inv .0))) in (
       subst (Between g k) (sym (r .ensures .0)) (between-round g k so (l .inv .0)),
-      subst (λ (h : SignedGraph). Settled k (edgesOf h) (r .result .lost)) (sym (r .ensures .0)) next,
+      subst (λ (h : SignedGraph). Settled k (edgesOf h) (r .result .fallen)) (sym (r .ensures .0)) next,
     )
 
 pub reduce-sound-spec : {M : Type 1} → statement M
