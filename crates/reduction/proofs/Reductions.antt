@@ -42,7 +42,8 @@ module _ (g : SignedGraph) (k : ℕ) (so : Sound g) where
         positives = table (h .positive) (g .positive) (so .positives) (b .positive-rows) (b .inside .positive) (b .undirected .positive);
         negatives = table (h .negative) (g .negative) (so .negatives) (b .negative-rows) (b .inside .negative) (b .undirected .negative);
         apart = λ p q m.
-            refute (mem q (getD (h .negative) p 0)) (λ n. clash (mem q (getD (g .negative) p 0)) (b .inside .negative p q n) (so .apart p q (b .inside .positive p q m)));
+            refute (mem q (getD (h .negative) p 0)) (λ n.
+            clash (mem q (getD (g .negative) p 0)) (b .inside .negative p q n) (so .apart p q (b .inside .positive p q m)));
       }
     where
       table : (rows whole : List ℕ) → Table (g .n) whole → length rows ≡ 64
@@ -51,7 +52,9 @@ module _ (g : SignedGraph) (k : ℕ) (so : Sound g) where
       table rows whole t long sub sy =
           record {
             whole = long;
-            low = λ p. lt-of-members (h .n) (getD rows p 0) (λ q m. omega (arith, b .same-n, mem-lt (g .n) q (getD whole p 0) (t .low p) (sub p q m)));
+            low = λ p.
+                lt-of-members (h .n) (getD rows p 0)
+                (λ q m. omega (arith, b .same-n, mem-lt (g .n) q (getD whole p 0) (t .low p) (sub p q m)));
             loopless = λ p. refute (mem p (getD rows p 0)) (λ m. clash (mem p (getD whole p 0)) (sub p p m) (t .loopless p));
             symmetric = sy;
           }
@@ -100,7 +103,8 @@ module _ (g : SignedGraph) (k : ℕ) (so : Sound g) where
   goes zero h b l = absurd (not-suc-le-zero l)
   goes (suc d) h b l = go (eqb (fallen h k) 0) refl (goes d (round h k) (between-round b))
     where
-      go : (t : Bool) → eqb (fallen h k) 0 ≡ t → (edgeCount (round h k) < d → Reduction g k (rounds d (round h k) k)) → Reduction g k (rounds (suc d) h k)
+      go : (t : Bool) → eqb (fallen h k) 0 ≡ t → (edgeCount (round h k) < d → Reduction g k (rounds d (round h k) k))
+          → Reduction g k (rounds (suc d) h k)
       go true e next = rw (e, rounds) (between-end b (eqb-true (fallen h k) 0 e))
       go false e next =
           let ne = eqb-false (fallen h k) 0 e in
@@ -128,8 +132,10 @@ one-reduction g r s k x y =
     let rs : Inside (edgesOf r) (edgesOf s) = y .largest (edgesOf r) (x .undirected) (x .inside) (x .fits) in
     let sr : Inside (edgesOf s) (edgesOf r) = x .largest (edgesOf s) (y .undirected) (y .inside) (y .fits) in
     let en : r .n ≡ s .n = x .same-n ∙ sym (y .same-n) in
-    let ep : r .positive ≡ s .positive = table (r .positive) (s .positive) (x .positive-rows) (y .positive-rows) (rs .positive) (sr .positive) in
-    let eq : r .negative ≡ s .negative = table (r .negative) (s .negative) (x .negative-rows) (y .negative-rows) (rs .negative) (sr .negative) in
+    let ep : r .positive ≡ s .positive =
+    table (r .positive) (s .positive) (x .positive-rows) (y .positive-rows) (rs .positive) (sr .positive) in
+    let eq : r .negative ≡ s .negative =
+    table (r .negative) (s .negative) (x .negative-rows) (y .negative-rows) (rs .negative) (sr .negative) in
     λ i. record { n = en i; positive = ep i; negative = eq i }
   where
     table : (a b : List ℕ) → length a ≡ 64 → length b ≡ 64

@@ -170,7 +170,9 @@ module _ (h : SignedGraph) (k : ℕ) (so : Sound h) where
   dropped p q e out = go (decLt p q) (ℕ-discrete p q) (ends e)
     where
       ends : edge h p q ≡ true → (p < 64) × (q < 64)
-      ends e = or-cases ((p < 64) × (q < 64)) (positiveEdge h p q) (negativeEdge h p q) e (low (so .positives) p q) (low (so .negatives) p q)
+      ends e =
+          or-cases ((p < 64) × (q < 64)) (positiveEdge h p q) (negativeEdge h p q) e
+          (low (so .positives) p q) (low (so .negatives) p q)
 
       no-loop : edge h p p ≡ false
       no-loop = ap₂ (λ (a b : Bool). a || b) (so .positives .loopless p) (so .negatives .loopless p)
@@ -210,7 +212,8 @@ module _ (h : SignedGraph) (k : ℕ) (so : Sound h) where
           (λ m. lose q (differ-at new old l ∙ ap not m) m)
       go (no l) =
           absurd (eqb-false new old ne
-          (mem-ext 64 new old (lt-of-members 64 new (λ p m. mem-lt 64 p old fits (sub p m))) fits (λ j x. agree-below new old j (omega arith))))
+          (mem-ext 64 new old (lt-of-members 64 new (λ p m. mem-lt 64 p old fits (sub p m))) fits
+          (λ j x. agree-below new old j (omega arith))))
 
   pub falls : 0 < fallen h k → edgeCount (round h k) < edgeCount h
   unfolding fallen

@@ -4,7 +4,7 @@ use native.Mathlib.Nat.{lt-of-le-of-lt}
 use native.Mathlib.Omega.{arith}
 use native.Mathlib.Decide.{decLt}
 use mathlib.Core.Path.{_≡_, refl, sym, ap, ap₂, _∙_, subst}
-use mathlib.Core.Bool.{Bool, true, false, not, _&&_, _||_, and-true, or-true}
+use mathlib.Core.Bool.{Bool, true, false, not, _&&_, _||_, and-true, or-true, or-false}
 use mathlib.Core.List.{List}
 use lib.Dec.{ltb, eqb, lit<}
 use lib.Bits.{bitAnd, and-le-l}
@@ -35,20 +35,19 @@ pub stay : (s p : ℕ) (t : Bool) → s < 2 ^ 64 → t ≡ true → s ≡ sifted
 unfolding sifted
 stay s p t h e =
     collect-is 64 s (λ q. mem q s && (not (mem q (single p)) || t)) h (λ q l.
-    sym (ap (λ (b : Bool). mem q s && (not (mem q (single p)) || b)) e ∙ ap (λ (b : Bool). mem q s && b) (or-true (not (mem q (single p)))) ∙ and-true (mem q s)))
+    sym (ap (λ (b : Bool). mem q s && (not (mem q (single p)) || b)) e
+    ∙ ap (λ (b : Bool). mem q s && b) (or-true (not (mem q (single p)))) ∙ and-true (mem q s)))
 
 pub strike-out : (s p x : ℕ) (t : Bool) → s < 2 ^ 64 → x ≡ single p → t ≡ false
     → bitAnd s ((2 ^ 64 - 1) - x) ≡ sifted s (single p) (λ q. t)
 unfolding sifted single
 strike-out s p x t h i e =
-    collect-is 64 (bitAnd s ((2 ^ 64 - 1) - x)) (λ q. mem q s && (not (mem q (single p)) || t)) (lt-of-le-of-lt (and-le-l s ((2 ^ 64 - 1) - x)) h) (λ q l.
+    collect-is 64 (bitAnd s ((2 ^ 64 - 1) - x)) (λ q. mem q s && (not (mem q (single p)) || t))
+    (lt-of-le-of-lt (and-le-l s ((2 ^ 64 - 1) - x)) h) (λ q l.
     mem-minus 64 q s x h (subst (λ (z : ℕ). z < 2 ^ 64) (sym i) (collect-lt (λ q. eqb q p) 64))
     ∙ ap (λ (z : ℕ). mem q s && not (mem q z)) i
-    ∙ ap (λ (b : Bool). mem q s && b) (sym (ap (λ (b : Bool). not (mem q (single p)) || b) e ∙ or-none (not (mem q (single p))))))
-  where
-    or-none : (b : Bool) → (b || false) ≡ b
-    or-none true = refl
-    or-none false = refl
+    ∙ ap (λ (b : Bool). mem q s && b)
+    (sym (ap (λ (b : Bool). not (mem q (single p)) || b) e ∙ or-false (not (mem q (single p))))))
 
 -- ---- a loop over those that are pending
 
@@ -98,7 +97,9 @@ sifting-begin s look f h =
       looked = λ q m. and-right (mem q s) (mem q look) (sym (mem-and q s look) ∙ m);
       struck = record {
         fits = h;
-        has = λ q l. go (mem q s) (mem q look) (f q) ∙ ap (λ (b : Bool). mem q s && (b || (not (mem q look) || f q))) (sym (mem-and q s look));
+        has = λ q l.
+            go (mem q s) (mem q look) (f q)
+            ∙ ap (λ (b : Bool). mem q s && (b || (not (mem q look) || f q))) (sym (mem-and q s look));
       };
     }
   where
@@ -141,7 +142,9 @@ comparing-begin a b =
     record {
       struck = record {
         fits = lit< tt;
-        has = λ q l. sym (ap (λ (t : Bool). mem q (2 ^ 64 - 1) && (not t || differ a b q)) (le-ltb q 0 (omega arith)) ∙ and-true (mem q (2 ^ 64 - 1)));
+        has = λ q l.
+            sym (ap (λ (t : Bool). mem q (2 ^ 64 - 1) && (not t || differ a b q)) (le-ltb q 0 (omega arith))
+            ∙ and-true (mem q (2 ^ 64 - 1)));
       };
     }
 
@@ -153,7 +156,8 @@ comparing-step {a} {b} {p} {found} d next t e i =
     go : (q : ℕ) → Dec (q < p) → not (ltb q (p + 1)) ≡ (not (ltb q p) && not (eqb q p))
     go q (yes x) = ap not (lt-ltb q (p + 1) (omega arith)) ∙ ap (λ (u : Bool). not u && not (eqb q p)) (sym (lt-ltb q p x))
     go q (no x) =
-        ap not (iff (ltb q (p + 1)) (eqb q p) (λ t. eq-eqb q p (omega (arith, ltb-true q (p + 1) t))) (λ t. lt-ltb q (p + 1) (omega (arith, eqb-true q p t))))
+        ap not (iff (ltb q (p + 1)) (eqb q p)
+        (λ t. eq-eqb q p (omega (arith, ltb-true q (p + 1) t))) (λ t. lt-ltb q (p + 1) (omega (arith, eqb-true q p t))))
         ∙ ap (λ (u : Bool). not u && not (eqb q p)) (sym (le-ltb q p (omega arith)))
 
 pub comparing-end : {a b : List ℕ} {p found : ℕ} → Comparing a b p found → 64 ≤ p → found ≡ differing a b

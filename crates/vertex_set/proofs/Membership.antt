@@ -154,7 +154,8 @@ lt-pow (suc s) = omega (arith, lt-pow s, two-pow-succ s)
 -- with no bound on the sets
 pub set-ext : (a b : ℕ) → ((p : ℕ) → mem p a ≡ mem p b) → a ≡ b
 set-ext a b h =
-    mem-ext (a + b) a b (lt-of-lt-of-le (lt-pow a) (pow-mono (omega arith))) (lt-of-lt-of-le (lt-pow b) (pow-mono (omega arith))) (λ p l. h p)
+    mem-ext (a + b) a b
+    (lt-of-lt-of-le (lt-pow a) (pow-mono (omega arith))) (lt-of-lt-of-le (lt-pow b) (pow-mono (omega arith))) (λ p l. h p)
 
 -- ---- subsets, as `a & b == a` tests them
 

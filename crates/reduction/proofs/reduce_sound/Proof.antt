@@ -11,7 +11,7 @@ use Rattle.reduction.specs.Reductions.{round, fallen}
 use Rattle.reduction.specs.Looks.{Settled}
 use Rattle.reduction.proofs.Rounds.{falls}
 use Rattle.reduction.proofs.Reductions.{Between, between-sound, between-start, between-round, between-end}
-use Rattle.reduction.proofs.Looks.{settled-first, settled-next}
+use Rattle.reduction.proofs.Settling.{settled-first, settled-next}
 use Rattle.reduction.proofs.reduce_sound.Statement.{statement}
 use Rattle.reduction.proofs.reduce_sound.Tie as tie
 
