@@ -189,11 +189,13 @@ fn reduce_sound(g: SignedGraph, k: u64) -> SignedGraph
     let mut kept = g;
     loop {
         let next = round(kept, k, look);
-        if next.fallen == 0 {
+        let fallen = next.fallen;
+        let graph = next.graph;
+        if fallen == 0 {
             return kept;
         }
-        look = next.fallen;
-        kept = next.graph;
+        look = fallen;
+        kept = graph;
     }
 }
 

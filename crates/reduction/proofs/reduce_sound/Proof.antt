@@ -38,23 +38,23 @@ returns c =
 
 loop-less : tie.Need-loop-less Inv-loop μ-loop
 loop-less c =
-    let b = c .before .before .before .before .before .before in
+    let b = c .before .before .before .before .before in
     let g = b .args .g in
     let k = b .args .k in
-    let l = c .before .before .before .before .loop in
-    let r = c .before .before .before .round in
-    let some : 0 < fallen (l .kept) k = omega (arith, r .ensures .1, c .before .if1 .left) in
+    let l = c .before .before .before .loop in
+    let r = c .before .before .round in
+    let some : 0 < fallen (l .kept) k = omega (arith, r .ensures .1, c .if1 .left) in
     subst (λ (h : SignedGraph). edgeCount h < edgeCount (l .kept)) (sym (r .ensures .0))
     (falls (l .kept) k (between-sound g k (to-sound g (b .pre)) (l .inv .0)) some)
 
 loop-again : tie.Need-loop-again Inv-loop μ-loop
 loop-again c =
-    let b = c .before .before .before .before .before .before in
+    let b = c .before .before .before .before .before in
     let g = b .args .g in
     let k = b .args .k in
     let so = to-sound g (b .pre) in
-    let l = c .before .before .before .before .loop in
-    let r = c .before .before .before .round in
+    let l = c .before .before .before .loop in
+    let r = c .before .before .round in
     let next : Settled k (edgesOf (round (l .kept) k)) (r .result .fallen) =
     subst (Settled k (edgesOf (round (l .kept) k))) (sym (r .ensures .1)) (settled-next (l .kept) k (between-sound g k so (l .inv .0))) in (
       subst (Between g k) (sym (r .ensures .0)) (between-round g k so (l .inv .0)),
