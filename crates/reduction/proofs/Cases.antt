@@ -31,7 +31,7 @@ pub record Reductions : Type 0 where
   pub T6-at-1-edges : edgeCount sampleA ≡ 8
 
 pub cases-reductions : Reductions
-unfolding reducedGraph rounds round fallen vertexFits positiveFits negativeFits atLeast tableOf edgeCount R.count R.sum R.gather S.mem S.collect
+unfolding reducedGraph rounds round fallen vertexFits positiveFits negativeFits atLeast tableOf edgeCount R.all R.count R.sum R.gather S.mem S.collect
 cases-reductions = record { T6 = refl; T6-edges = refl; T6-at-1 = refl; T6-at-1-edges = refl }
 
 -- its group, listed from A and from A reduced

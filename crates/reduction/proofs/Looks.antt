@@ -6,18 +6,23 @@ use mathlib.Core.List.{List}
 use lib.Dec.{eqb}
 use lib.Bits.{bitAnd, bitOr, or-lt}
 use lib.ListN.{getD}
-use borrow.Author.Tests.{lt-ltb}
+use borrow.Author.Tests.{lt-ltb, eqb-true, eq-eqb}
+use Rattle.vertex_set.specs.Ranges.{all}
 use Rattle.vertex_set.specs.Sets.{mem, collect}
-use Rattle.vertex_set.proofs.Booleans.{and-same, or-left, or-right, neither-left, neither-right}
+use Rattle.vertex_set.proofs.Booleans.{iff, and-intro, and-left, and-right, and-same, or-left, or-right, neither-left, neither-right, imp-intro}
+use Rattle.vertex_set.proofs.Ranges.{all-of}
 use Rattle.vertex_set.proofs.Membership.{mem-none, mem-and, mem-or, mem-ones}
 use Rattle.vertex_set.proofs.Collections.{collect-lt, collect-at, collect-is}
 use Rattle.signed_graph.specs.declared.SignedGraph.{SignedGraph}
-use Rattle.signed_graph.specs.Graphs.{tableOf}
+use Rattle.signed_graph.specs.Graphs.{edge}
+use Rattle.signed_graph.specs.Soundness.{sound}
+use Rattle.signed_graph.proofs.Soundness.{Sound, to-sound}
 use Rattle.signed_graph.proofs.Tables.{table-cong}
-use Rattle.reduction.specs.Collections.{Collection, edgesIn, edgesOf, vertexFits, positiveFits, negativeFits}
+use Rattle.reduction.specs.Collections.{Collection, edgesOf, vertexFits, positiveFits, negativeFits}
 use Rattle.reduction.specs.Reductions.{keepsPositive, keepsNegative, round, fallen}
 use Rattle.reduction.specs.Looks.{shares, sifted, stays, keptRow, keptTable, differing, Settled}
 use Rattle.reduction.proofs.Striking.{sifted-lt, mem-sifted}
+use Rattle.reduction.proofs.Rounds.{mem-fallen, same-positive-row, same-negative-row}
 use Rattle.reduction.proofs.Counts.{vertex-shares, positive-shares, negative-shares}
 
 -- ---- a row
@@ -49,10 +54,10 @@ module _ (look able a p allowed due : ℕ) (f : ℕ → Bool)
 
 -- ---- a table
 
-module _ (positive negative : List ℕ) (k look able : ℕ) (st : Settled k (edgesIn positive negative) look)
-    (ea : able ≡ sifted (2 ^ 64 - 1) look (shares positive negative (2 ^ 64 - 1) (k - 1) (2 ^ 64 - 1) k)) where
+module _ (g : SignedGraph) (so : Sound g) (k look able : ℕ) (st : Settled k (edgesOf g) look)
+    (ea : able ≡ sifted (2 ^ 64 - 1) look (shares (g .positive) (g .negative) (2 ^ 64 - 1) (k - 1) (2 ^ 64 - 1) k)) where
   abbrev c : Collection
-  c = edgesIn positive negative
+  c = edgesOf g
 
   -- what is not looked at fits
   settle : (l f : Bool) → (l ≡ false → f ≡ true) → (not l || f) ≡ f
@@ -60,86 +65,101 @@ module _ (positive negative : List ℕ) (k look able : ℕ) (st : Settled k (edg
   settle false f h = sym (h refl)
 
   -- a vertex with an edge is able exactly where it fits
-  able-fits : (p q : ℕ) → p < 64 → (c .positive p q || c .negative p q) ≡ true → mem p able ≡ vertexFits k c p
+  able-fits : (p q : ℕ) → p < 64 → edge g p q ≡ true → mem p able ≡ vertexFits k c p
   able-fits p q l e =
       ap (mem p) ea ∙ mem-sifted _ look _ p l
-      ∙ ap₂ (λ (x y : Bool). x && (not (mem p look) || y)) (mem-ones 64 p ∙ lt-ltb p 64 l) (vertex-shares positive negative k p)
+      ∙ ap₂ (λ (x y : Bool). x && (not (mem p look) || y)) (mem-ones 64 p ∙ lt-ltb p 64 l) (vertex-shares g k p)
       ∙ settle (mem p look) (vertexFits k c p) (st .vertex p q e)
 
   -- so the test of an edge comes to the definition's
-  edge-fits : (p q : ℕ) → p < 64 → q < 64 → (c .positive p q || c .negative p q) ≡ true → (c .positive q p || c .negative q p) ≡ true
-      → (f edge : Bool) → f ≡ edge → (mem p look ≡ false → mem q look ≡ false → edge ≡ true)
-      → (mem p able && mem q able && (not (mem p look || mem q look) || f)) ≡ (vertexFits k c p && vertexFits k c q && edge)
-  edge-fits p q l m pq qp f edge e h =
-      ap₂ (λ (x y : Bool). x && y) (ap₂ (λ (x y : Bool). x && y) (able-fits p q l pq) (able-fits q p m qp))
-      (ap (λ (x : Bool). not (mem p look || mem q look) || x) e
-      ∙ settle (mem p look || mem q look) edge
+  edge-fits : (p q : ℕ) → p < 64 → q < 64 → edge g p q ≡ true → (test fits : Bool) → test ≡ fits
+      → (mem p look ≡ false → mem q look ≡ false → fits ≡ true)
+      → (mem p able && mem q able && (not (mem p look || mem q look) || test)) ≡ (vertexFits k c p && vertexFits k c q && fits)
+  edge-fits p q l m e test fits i h =
+      let turned : edge g q p ≡ true =
+      ap₂ (λ (x y : Bool). x || y) (so .positives .symmetric q p) (so .negatives .symmetric q p) ∙ e in
+      ap₂ (λ (x y : Bool). x && y) (ap₂ (λ (x y : Bool). x && y) (able-fits p q l e) (able-fits q p m turned))
+      (ap (λ (x : Bool). not (mem p look || mem q look) || x) i
+      ∙ settle (mem p look || mem q look) fits
       (λ o. h (neither-left (mem p look) (mem q look) o) (neither-right (mem p look) (mem q look) o)))
 
-  kept-positive : keptTable look able (k - 2) k positive negative positive negative ≡ tableOf (keepsPositive k c)
-  unfolding keptTable
+  kept-positive : keptTable look able (k - 2) k (g .positive) (g .negative) (g .positive) (g .negative) ≡ round g k .positive
+  unfolding keptTable round
   kept-positive =
-      table-cong
-      (λ p. stays look able (shares positive negative (getD positive p 0) (k - 2) (getD negative p 0) k) (getD positive p 0) p)
-      (keepsPositive k c) (λ p q l m. and-same (c .positive p q) _ _ (λ e.
-      edge-fits p q l m (or-left (c .positive p q) _ e) (or-left (c .positive q p) _ (st .undirected .positive q p ∙ e))
-      _ (positiveFits k c p q) (positive-shares positive negative k p q) (st .positive p q e)))
+      table-cong _ (keepsPositive k c) (λ p q l m. and-same (c .positive p q) _ _ (λ e.
+      edge-fits p q l m (or-left (c .positive p q) _ e) _ (positiveFits k c p q) (positive-shares g k p q) (st .positive p q e)))
 
-  kept-negative : keptTable look able (k - 1) (k - 1) negative positive positive negative ≡ tableOf (keepsNegative k c)
-  unfolding keptTable
+  kept-negative : keptTable look able (k - 1) (k - 1) (g .negative) (g .positive) (g .positive) (g .negative) ≡ round g k .negative
+  unfolding keptTable round
   kept-negative =
-      table-cong
-      (λ p. stays look able (shares positive negative (getD negative p 0) (k - 1) (getD positive p 0) (k - 1)) (getD negative p 0) p)
-      (keepsNegative k c) (λ p q l m. and-same (c .negative p q) _ _ (λ e.
-      edge-fits p q l m (or-right (c .positive p q) _ e) (or-right (c .positive q p) _ (st .undirected .negative q p ∙ e))
-      _ (negativeFits k c p q) (negative-shares positive negative k p q) (st .negative p q e)))
+      table-cong _ (keepsNegative k c) (λ p q l m. and-same (c .negative p q) _ _ (λ e.
+      edge-fits p q l m (or-right (c .positive p q) _ e) _ (negativeFits k c p q) (negative-shares g k p q) (st .negative p q e)))
 
--- ---- a round
+-- ---- the vertices of dropped edges are those whose rows change
 
-differing-fallen : (g : SignedGraph) (k : ℕ)
-    → bitOr (differing (round g k .positive) (g .positive)) (differing (round g k .negative) (g .negative)) ≡ fallen g k
-unfolding fallen differing
-differing-fallen g k =
-    collect-is 64 (bitOr (collect 64 a) (collect 64 b)) (λ p. not (same-positive p && same-negative p))
-    (or-lt 64 (collect 64 a) (collect 64 b) (collect-lt a 64) (collect-lt b 64)) (λ p l.
-    mem-or p (collect 64 a) (collect 64 b) ∙ ap₂ (λ (x y : Bool). x || y) (collect-at a 64 p l) (collect-at b 64 p l)
-    ∙ one (same-positive p) (same-negative p))
-  where
-    same-positive : ℕ → Bool
-    same-positive p = eqb (getD (round g k .positive) p 0) (getD (g .positive) p 0)
+module _ (g : SignedGraph) (so : Sound g) (k : ℕ) where
+  abbrev r : SignedGraph
+  r = round g k
 
-    same-negative : ℕ → Bool
-    same-negative p = eqb (getD (round g k .negative) p 0) (getD (g .negative) p 0)
+  abbrev same-positive : ℕ → Bool
+  same-positive p = eqb (getD (r .positive) p 0) (getD (g .positive) p 0)
 
-    a : ℕ → Bool
-    a p = not (same-positive p)
+  abbrev same-negative : ℕ → Bool
+  same-negative p = eqb (getD (r .negative) p 0) (getD (g .negative) p 0)
 
-    b : ℕ → Bool
-    b p = not (same-negative p)
+  abbrev stays-all : ℕ → Bool
+  stays-all p = all 64 (λ q. not (edge g p q) || edge r p q)
 
-    one : (x y : Bool) → (not x || not y) ≡ not (x && y)
-    one true y = refl
-    one false y = refl
+  same-rows : (p : ℕ) → p < 64 → (same-positive p && same-negative p) ≡ stays-all p
+  same-rows p l =
+      iff (same-positive p && same-negative p) (stays-all p)
+      (λ t. all-of _ 64 (λ q _. imp-intro (edge g p q) (edge r p q) (λ e.
+      ap₂ (λ (x y : ℕ). mem q x || mem q y) (eqb-true _ _ (and-left _ _ t)) (eqb-true _ _ (and-right (same-positive p) _ t)) ∙ e)))
+      (λ t.
+      let out : mem p (fallen g k) ≡ false = mem-fallen g k so p l ∙ ap not t in
+      and-intro _ _ (eq-eqb _ _ (same-positive-row g k so p out)) (eq-eqb _ _ (same-negative-row g k so p out)))
 
--- what the code puts together
+  differing-fallen : bitOr (differing (r .positive) (g .positive)) (differing (r .negative) (g .negative)) ≡ fallen g k
+  unfolding differing fallen
+  differing-fallen =
+      collect-is 64 (bitOr (collect 64 a) (collect 64 b)) (λ p. not (stays-all p))
+      (or-lt 64 (collect 64 a) (collect 64 b) (collect-lt a 64) (collect-lt b 64)) (λ p l.
+      mem-or p (collect 64 a) (collect 64 b) ∙ ap₂ (λ (x y : Bool). x || y) (collect-at a 64 p l) (collect-at b 64 p l)
+      ∙ one (same-positive p) (same-negative p) ∙ ap not (same-rows p l))
+    where
+      a : ℕ → Bool
+      a p = not (same-positive p)
+
+      b : ℕ → Bool
+      b p = not (same-negative p)
+
+      one : (x y : Bool) → (not x || not y) ≡ not (x && y)
+      one true y = refl
+      one false y = refl
+
+-- ---- what the code puts together
+
 module _ (g : SignedGraph) (k look able few fewer : ℕ) (positive negative : List ℕ) (e1 : few ≡ k - 1) (e2 : fewer ≡ k - 2)
-    (st : Settled k (edgesOf g) look)
+    (so : sound g ≡ true) (st : Settled k (edgesOf g) look)
     (ea : able ≡ sifted (2 ^ 64 - 1) look (shares (g .positive) (g .negative) (2 ^ 64 - 1) few (2 ^ 64 - 1) k))
     (ep : positive ≡ keptTable look able fewer k (g .positive) (g .negative) (g .positive) (g .negative))
     (en : negative ≡ keptTable look able few few (g .negative) (g .positive) (g .positive) (g .negative)) where
   able-is : able ≡ sifted (2 ^ 64 - 1) look (shares (g .positive) (g .negative) (2 ^ 64 - 1) (k - 1) (2 ^ 64 - 1) k)
   able-is = ea ∙ ap (λ (z : ℕ). sifted (2 ^ 64 - 1) look (shares (g .positive) (g .negative) (2 ^ 64 - 1) z (2 ^ 64 - 1) k)) e1
 
-  pub round-made : _≡_ {A = SignedGraph} (record { n = g .n; positive = positive; negative = negative }) (round g k)
+  graph-made : _≡_ {A = SignedGraph} (record { n = g .n; positive = positive; negative = negative }) (round g k)
   unfolding round
-  round-made =
+  graph-made =
       ap₂ (λ (x y : List ℕ). record { n = g .n; positive = x; negative = y })
       (ep ∙ ap (λ (z : ℕ). keptTable look able z k (g .positive) (g .negative) (g .positive) (g .negative)) e2
-      ∙ kept-positive (g .positive) (g .negative) k look able st able-is)
+      ∙ kept-positive g (to-sound g so) k look able st able-is)
       (en ∙ ap (λ (z : ℕ). keptTable look able z z (g .negative) (g .positive) (g .positive) (g .negative)) e1
-      ∙ kept-negative (g .positive) (g .negative) k look able st able-is)
+      ∙ kept-negative g (to-sound g so) k look able st able-is)
 
-  pub fallen-made : bitOr (differing positive (g .positive)) (differing negative (g .negative)) ≡ fallen g k
-  fallen-made =
-      ap (λ (r : SignedGraph). bitOr (differing (r .positive) (g .positive)) (differing (r .negative) (g .negative))) round-made
-      ∙ differing-fallen g k
+  pub round-made : (_≡_ {A = SignedGraph} (record { n = g .n; positive = positive; negative = negative }) (round g k))
+      × (bitOr (differing positive (g .positive)) (differing negative (g .negative)) ≡ fallen g k)
+  round-made = (
+    graph-made,
+    ap (λ (r : SignedGraph). bitOr (differing (r .positive) (g .positive)) (differing (r .negative) (g .negative))) graph-made
+        ∙ differing-fallen g (to-sound g so) k,
+  )

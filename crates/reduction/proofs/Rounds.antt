@@ -1,18 +1,17 @@
 -- A round: which edges it keeps, that a fitting collection survives it, and that it drops an edge unless all fit. Assumes nothing.
 use Prim.Native.Nat.{ℕ, _^_, _<_}
-use native.Mathlib.Nat.{lt-of-lt-of-le}
 use native.Mathlib.Omega.{arith}
 use native.Mathlib.Decide.{decLt, ℕ-discrete}
 use mathlib.Core.Path.{_≡_, sym, ap, ap₂, _∙_}
 use mathlib.Core.Bool.{Bool, true, false, not, _&&_, _||_, and-comm}
 use mathlib.Core.List.{List}
-use lib.Dec.{eqb}
 use lib.ListN.{getD}
-use lib.Pow.{pow-mono}
-use borrow.Author.Tests.{eqb-true, eqb-false, not-true, not-false}
+use borrow.Author.Tests.{not-true, not-false}
+use Rattle.vertex_set.specs.Ranges.{all}
 use Rattle.vertex_set.specs.Sets.{mem, lowest}
-use Rattle.vertex_set.proofs.Booleans.{clash, cases, refute, and-intro, and-left, and-right, and-other, or-left, or-right, or-cases}
-use Rattle.vertex_set.proofs.Membership.{mem-none, mem-lt, mem-ext, lt-of-members}
+use Rattle.vertex_set.proofs.Booleans.{clash, iff, and-intro, and-left, and-right, or-left, or-right, or-cases, neither-left, neither-right, imp-elim}
+use Rattle.vertex_set.proofs.Ranges.{all-at, all-missed}
+use Rattle.vertex_set.proofs.Membership.{mem-none, set-ext}
 use Rattle.vertex_set.proofs.Collections.{collect-lt, collect-at}
 use Rattle.vertex_set.proofs.LowestVertex.{lowest-lt, lowest-in}
 use Rattle.signed_graph.specs.declared.SignedGraph.{SignedGraph}
@@ -20,8 +19,6 @@ use Rattle.signed_graph.specs.Graphs.{positiveEdge, negativeEdge, edge, edgeCou
 use Rattle.signed_graph.proofs.Soundness.{Table, partner-below, Sound}
 use Rattle.signed_graph.proofs.Tables.{table-has}
 use Rattle.signed_graph.proofs.EdgeCounts.{edges-fewer}
-use Rattle.clique.specs.Order.{difference}
-use Rattle.clique.proofs.Order.{agree-below, differ-at}
 use Rattle.reduction.specs.Collections.{Collection, edgesOf, Undirected, Inside, vertexFits, positiveFits, negativeFits, Fits}
 use Rattle.reduction.specs.Reductions.{keeps, keepsPositive, keepsNegative, round, fallen}
 use Rattle.reduction.proofs.Collections.{vertex-more, positive-more, negative-more, positive-comm, negative-comm}
@@ -56,7 +53,7 @@ module _ (h : SignedGraph) (k : ℕ) (so : Sound h) where
   abbrev c : Collection
   c = edgesOf h
 
-  pub low : {rows : List ℕ} → Table (h .n) rows → (p q : ℕ) → mem q (getD rows p 0) ≡ true → (p < 64) × (q < 64)
+  low : {rows : List ℕ} → Table (h .n) rows → (p q : ℕ) → mem q (getD rows p 0) ≡ true → (p < 64) × (q < 64)
   low t p q m =
       let b = partner-below t p q m in
       (omega (arith, b .0, so .small), omega (arith, b .1, so .small))
@@ -114,28 +111,54 @@ module _ (h : SignedGraph) (k : ℕ) (so : Sound h) where
       fits-at : (p q : ℕ) → (d .positive p q || d .negative p q) ≡ true → vertexFits k c p ≡ true
       fits-at p q e = vertex-more i k p (f .vertex p q e)
 
-  -- ---- the vertices that lost a partner
+  -- ---- the vertices of dropped edges
 
-  abbrev same-positive : ℕ → Bool
-  same-positive p = eqb (getD (round h k .positive) p 0) (getD (h .positive) p 0)
+  edge-inside : (p q : ℕ) → edge (round h k) p q ≡ true → edge h p q ≡ true
+  edge-inside p q e =
+      or-cases (edge h p q ≡ true) (positiveEdge (round h k) p q) (negativeEdge (round h k) p q) e
+      (λ m. or-left (positiveEdge h p q) (negativeEdge h p q) (round-inside .positive p q m))
+      (λ m. or-right (positiveEdge h p q) (negativeEdge h p q) (round-inside .negative p q m))
 
-  abbrev same-negative : ℕ → Bool
-  same-negative p = eqb (getD (round h k .negative) p 0) (getD (h .negative) p 0)
+  edge-low : (p q : ℕ) → edge h p q ≡ true → (p < 64) × (q < 64)
+  edge-low p q e =
+      or-cases ((p < 64) × (q < 64)) (positiveEdge h p q) (negativeEdge h p q) e (low (so .positives) p q) (low (so .negatives) p q)
 
-  mem-fallen : (p : ℕ) → p < 64 → mem p (fallen h k) ≡ not (same-positive p && same-negative p)
+  abbrev stays : ℕ → ℕ → Bool
+  stays p q = not (edge h p q) || edge (round h k) p q
+
+  pub mem-fallen : (p : ℕ) → p < 64 → mem p (fallen h k) ≡ not (all 64 (λ q. not (edge h p q) || edge (round h k) p q))
   unfolding fallen
-  mem-fallen p l = collect-at (λ p. not (same-positive p && same-negative p)) 64 p l
+  mem-fallen p l = collect-at (λ p. not (all 64 (stays p))) 64 p l
 
-  same-rows : (p : ℕ) → p < 64 → mem p (fallen h k) ≡ false → (same-positive p && same-negative p) ≡ true
-  same-rows p l e = not-false (same-positive p && same-negative p) (sym (mem-fallen p l) ∙ e)
+  -- any other vertex keeps its edges
+  module _ (p : ℕ) (out : mem p (fallen h k) ≡ false) where
+    kept-edge : (q : ℕ) → edge h p q ≡ true → edge (round h k) p q ≡ true
+    kept-edge q e =
+        let l = edge-low p q e in
+        imp-elim (edge h p q) (edge (round h k) p q)
+        (all-at (stays p) 64 (not-false (all 64 (stays p)) (sym (mem-fallen p (l .0)) ∙ out)) q (l .1)) e
 
-  pub same-positive-row : (p : ℕ) → p < 64 → mem p (fallen h k) ≡ false → getD (round h k .positive) p 0 ≡ getD (h .positive) p 0
-  same-positive-row p l e = eqb-true _ _ (and-left (same-positive p) (same-negative p) (same-rows p l e))
+    -- with their signs
+    kept-positive : (q : ℕ) → positiveEdge h p q ≡ true → positiveEdge (round h k) p q ≡ true
+    kept-positive q m =
+        or-cases (positiveEdge (round h k) p q ≡ true) (positiveEdge (round h k) p q) (negativeEdge (round h k) p q)
+        (kept-edge q (or-left (positiveEdge h p q) (negativeEdge h p q) m)) (λ x. x)
+        (λ x. clash (negativeEdge h p q) (round-inside .negative p q x) (so .apart p q m))
 
-  pub same-negative-row : (p : ℕ) → p < 64 → mem p (fallen h k) ≡ false → getD (round h k .negative) p 0 ≡ getD (h .negative) p 0
-  same-negative-row p l e = eqb-true _ _ (and-right (same-positive p) (same-negative p) (same-rows p l e))
+    kept-negative : (q : ℕ) → negativeEdge h p q ≡ true → negativeEdge (round h k) p q ≡ true
+    kept-negative q m =
+        or-cases (negativeEdge (round h k) p q ≡ true) (positiveEdge (round h k) p q) (negativeEdge (round h k) p q)
+        (kept-edge q (or-right (positiveEdge h p q) (negativeEdge h p q) m))
+        (λ x. clash (negativeEdge h p q) m (so .apart p q (round-inside .positive p q x))) (λ x. x)
 
-  -- where no vertex lost one, the edges fit
+    -- so its rows stay as they were
+    pub same-positive-row : getD (round h k .positive) p 0 ≡ getD (h .positive) p 0
+    same-positive-row = set-ext _ _ (λ q. iff _ _ (round-inside .positive p q) (kept-positive q))
+
+    pub same-negative-row : getD (round h k .negative) p 0 ≡ getD (h .negative) p 0
+    same-negative-row = set-ext _ _ (λ q. iff _ _ (round-inside .negative p q) (kept-negative q))
+
+  -- where there is none, the edges fit
   pub none-fallen : fallen h k ≡ 0 → Fits k (edgesOf h)
   none-fallen z =
       record {
@@ -151,29 +174,16 @@ module _ (h : SignedGraph) (k : ℕ) (so : Sound h) where
       none p = ap (mem p) z ∙ mem-none p
 
       stays-positive : (p q : ℕ) → c .positive p q ≡ true → keepsPositive k c p q ≡ true
-      stays-positive p q m =
-          sym (round-positive p q) ∙ ap (mem q) (same-positive-row p (low (so .positives) p q m .0) (none p)) ∙ m
+      stays-positive p q m = sym (round-positive p q) ∙ kept-positive p (none p) q m
 
       stays-negative : (p q : ℕ) → c .negative p q ≡ true → keepsNegative k c p q ≡ true
-      stays-negative p q m =
-          sym (round-negative p q) ∙ ap (mem q) (same-negative-row p (low (so .negatives) p q m .0) (none p)) ∙ m
+      stays-negative p q m = sym (round-negative p q) ∙ kept-negative p (none p) q m
 
-  -- ---- a round that makes a vertex lose a partner drops an edge
-
-  edge-inside : (p q : ℕ) → edge (round h k) p q ≡ true → edge h p q ≡ true
-  edge-inside p q e =
-      or-cases (edge h p q ≡ true) (positiveEdge (round h k) p q) (negativeEdge (round h k) p q) e
-      (λ m. or-left (positiveEdge h p q) (negativeEdge h p q) (round-inside .positive p q m))
-      (λ m. or-right (positiveEdge h p q) (negativeEdge h p q) (round-inside .negative p q m))
+  -- ---- where there is one, an edge was dropped
 
   dropped : (p q : ℕ) → edge h p q ≡ true → edge (round h k) p q ≡ false → edgeCount (round h k) < edgeCount h
-  dropped p q e out = go (decLt p q) (ℕ-discrete p q) (ends e)
+  dropped p q e out = go (decLt p q) (ℕ-discrete p q) (edge-low p q e)
     where
-      ends : edge h p q ≡ true → (p < 64) × (q < 64)
-      ends e =
-          or-cases ((p < 64) × (q < 64)) (positiveEdge h p q) (negativeEdge h p q) e
-          (low (so .positives) p q) (low (so .negatives) p q)
-
       no-loop : edge h p p ≡ false
       no-loop = ap₂ (λ (a b : Bool). a || b) (so .positives .loopless p) (so .negatives .loopless p)
 
@@ -185,49 +195,12 @@ module _ (h : SignedGraph) (k : ℕ) (so : Sound h) where
           (ap₂ (λ (a b : Bool). a || b) (round-undirected .positive q p) (round-undirected .negative q p) ∙ out)
           (ap₂ (λ (a b : Bool). a || b) (so .positives .symmetric q p) (so .negatives .symmetric q p) ∙ e)
 
-  lost-positive : (p q : ℕ) → positiveEdge h p q ≡ true → positiveEdge (round h k) p q ≡ false → edgeCount (round h k) < edgeCount h
-  lost-positive p q e out =
-      dropped p q (or-left (positiveEdge h p q) (negativeEdge h p q) e)
-      (ap₂ (λ (a b : Bool). a || b) out
-      (refute (negativeEdge (round h k) p q) (λ m. clash (negativeEdge h p q) (round-inside .negative p q m) (so .apart p q e))))
-
-  lost-negative : (p q : ℕ) → negativeEdge h p q ≡ true → negativeEdge (round h k) p q ≡ false → edgeCount (round h k) < edgeCount h
-  lost-negative p q e out =
-      dropped p q (or-right (positiveEdge h p q) (negativeEdge h p q) e)
-      (ap₂ (λ (a b : Bool). a || b)
-      (refute (positiveEdge (round h k) p q) (λ m. clash (negativeEdge h p q) e (so .apart p q (round-inside .positive p q m)))) out)
-
-  -- a row that changed lost a member
-  changed : {A : Type 0} (new old : ℕ) → old < 2 ^ 64 → ((q : ℕ) → mem q new ≡ true → mem q old ≡ true) → eqb new old ≡ false
-      → ((q : ℕ) → mem q old ≡ true → mem q new ≡ false → A) → A
-  changed {A} new old fits sub ne lose = go (decLt (difference new old) 64)
-    where
-      q : ℕ
-      q = difference new old
-
-      go : Dec (difference new old < 64) → A
-      go (yes l) =
-          cases A (mem q new)
-          (λ m. clash (mem q old) (sub q m) (differ-at new old l ∙ ap not m))
-          (λ m. lose q (differ-at new old l ∙ ap not m) m)
-      go (no l) =
-          absurd (eqb-false new old ne
-          (mem-ext 64 new old (lt-of-members 64 new (λ p m. mem-lt 64 p old fits (sub p m))) fits
-          (λ j x. agree-below new old j (omega arith))))
-
   pub falls : 0 < fallen h k → edgeCount (round h k) < edgeCount h
   unfolding fallen
   falls pos =
       let p : ℕ = lowest (fallen h k) in
-      let fits : fallen h k < 2 ^ 64 = collect-lt (λ p. not (same-positive p && same-negative p)) 64 in
-      let l : p < 64 = lowest-lt (fallen h k) pos fits in
-      let some : (same-positive p && same-negative p) ≡ false =
-      not-true (same-positive p && same-negative p) (sym (mem-fallen p l) ∙ lowest-in (fallen h k) pos fits) in
-      cases (edgeCount (round h k) < edgeCount h) (same-positive p)
-      (λ e. changed (getD (round h k .negative) p 0) (getD (h .negative) p 0) (row-fits (so .negatives) p) (round-inside .negative p)
-      (and-other (same-positive p) (same-negative p) some e) (lost-negative p))
-      (λ e. changed (getD (round h k .positive) p 0) (getD (h .positive) p 0) (row-fits (so .positives) p) (round-inside .positive p)
-      e (lost-positive p))
-    where
-      row-fits : {rows : List ℕ} → Table (h .n) rows → (p : ℕ) → getD rows p 0 < 2 ^ 64
-      row-fits t p = lt-of-lt-of-le (t .low p) (pow-mono (so .small))
+      let fits : fallen h k < 2 ^ 64 = collect-lt (λ p. not (all 64 (stays p))) 64 in
+      let lost : not (all 64 (stays p)) ≡ true = sym (mem-fallen p (lowest-lt (fallen h k) pos fits)) ∙ lowest-in (fallen h k) pos fits in
+      all-missed (stays p) 64 (not-true (all 64 (stays p)) lost) (λ q l e.
+      dropped p q (not-false (edge h p q) (neither-left (not (edge h p q)) (edge (round h k) p q) e))
+      (neither-right (not (edge h p q)) (edge (round h k) p q) e))

@@ -1,18 +1,18 @@
 -- What a round has to look at: at first all vertices, then those that lost a partner in the round before. Assumes nothing.
 use Prim.Native.Nat.{ℕ, _-_, _<_}
 use mathlib.Core.Path.{_≡_, sym, ap, ap₂, _∙_}
-use mathlib.Core.Bool.{Bool, true, false, _&&_, _||_}
+use mathlib.Core.Bool.{Bool, true, false, _&&_}
 use lib.ListN.{getD}
 use borrow.Author.Tests.{lt-ltb}
 use Rattle.vertex_set.specs.Sets.{mem}
-use Rattle.vertex_set.proofs.Booleans.{clash, or-left, or-right, or-cases}
+use Rattle.vertex_set.proofs.Booleans.{clash, or-cases}
 use Rattle.signed_graph.specs.declared.SignedGraph.{SignedGraph}
 use Rattle.signed_graph.specs.Graphs.{vertices}
 use Rattle.signed_graph.proofs.Soundness.{Sound, partner-below, mem-vertices}
 use Rattle.reduction.specs.Collections.{Collection, edgesOf, atLeast, both, vertexFits, positiveFits, negativeFits}
 use Rattle.reduction.specs.Reductions.{keepsPositive, keepsNegative, round, fallen}
 use Rattle.reduction.specs.Looks.{Settled}
-use Rattle.reduction.proofs.Rounds.{keeps-vertex, keeps-edge, low, round-positive, round-negative, round-inside, round-undirected, same-positive-row, same-negative-row}
+use Rattle.reduction.proofs.Rounds.{keeps-vertex, keeps-edge, round-positive, round-negative, same-positive-row, same-negative-row}
 
 module _ (h : SignedGraph) (k : ℕ) (so : Sound h) where
   -- ---- at first
@@ -20,7 +20,6 @@ module _ (h : SignedGraph) (k : ℕ) (so : Sound h) where
   pub settled-first : Settled k (edgesOf h) (vertices h)
   settled-first =
       record {
-        undirected = record { positive = so .positives .symmetric; negative = so .negatives .symmetric };
         vertex = λ p q e o.
             or-cases (vertexFits k (edgesOf h) p ≡ true) (mem q (getD (h .positive) p 0)) (mem q (getD (h .negative) p 0)) e
             (λ m. absent p (partner-below (so .positives) p q m .0) o) (λ m. absent p (partner-below (so .negatives) p q m .0) o);
@@ -45,44 +44,32 @@ module _ (h : SignedGraph) (k : ℕ) (so : Sound h) where
   kept-negative : (p q : ℕ) → new .negative p q ≡ true → keepsNegative k old p q ≡ true
   kept-negative p q e = sym (round-negative h k so p q) ∙ e
 
-  ends : (p q : ℕ) → (new .positive p q || new .negative p q) ≡ true → (p < 64) × (q < 64)
-  ends p q e =
-      or-cases ((p < 64) × (q < 64)) (new .positive p q) (new .negative p q) e
-      (λ m. low h k so (so .positives) p q (round-inside h k so .positive p q m))
-      (λ m. low h k so (so .negatives) p q (round-inside h k so .negative p q m))
-
   -- a vertex that lost no partner has the partners that it had
   abbrev members : ℕ → ℕ → Bool
   members row r = mem r row
 
-  same-positive : (p : ℕ) → p < 64 → mem p (fallen h k) ≡ false → new .positive p ≡ old .positive p
-  same-positive p l o = ap members (same-positive-row h k so p l o)
+  same-positive : (p : ℕ) → mem p (fallen h k) ≡ false → new .positive p ≡ old .positive p
+  same-positive p o = ap members (same-positive-row h k so p o)
 
-  same-negative : (p : ℕ) → p < 64 → mem p (fallen h k) ≡ false → new .negative p ≡ old .negative p
-  same-negative p l o = ap members (same-negative-row h k so p l o)
+  same-negative : (p : ℕ) → mem p (fallen h k) ≡ false → new .negative p ≡ old .negative p
+  same-negative p o = ap members (same-negative-row h k so p o)
 
   -- what was kept fitted by the edges before the round, and by those after it where no vertex lost one
   pub settled-next : Settled k (edgesOf (round h k)) (fallen h k)
   unfolding vertexFits positiveFits negativeFits
   settled-next =
       record {
-        undirected = round-undirected h k so;
         vertex = λ p q e o.
-            let l = ends p q e .0 in
-            ap₂ (λ (x y : ℕ → Bool). atLeast (k - 1) x && atLeast k y) (same-positive p l o) (same-negative p l o)
+            ap₂ (λ (x y : ℕ → Bool). atLeast (k - 1) x && atLeast k y) (same-positive p o) (same-negative p o)
             ∙ or-cases (vertexFits k old p ≡ true) (new .positive p q) (new .negative p q) e
             (λ m. keeps-vertex (old .positive) (vertexFits k old) (positiveFits k old) p q (kept-positive p q m))
             (λ m. keeps-vertex (old .negative) (vertexFits k old) (negativeFits k old) p q (kept-negative p q m));
         positive = λ p q e o o′.
-            let b = ends p q (or-left (new .positive p q) (new .negative p q) e) in
             ap₂ (λ (x y : ℕ → Bool). atLeast (k - 2) x && atLeast k y)
-            (ap₂ both (same-positive p (b .0) o) (same-positive q (b .1) o′))
-            (ap₂ both (same-negative p (b .0) o) (same-negative q (b .1) o′))
+            (ap₂ both (same-positive p o) (same-positive q o′)) (ap₂ both (same-negative p o) (same-negative q o′))
             ∙ keeps-edge (old .positive) (vertexFits k old) (positiveFits k old) p q (kept-positive p q e);
         negative = λ p q e o o′.
-            let b = ends p q (or-right (new .positive p q) (new .negative p q) e) in
             ap₂ (λ (x y : ℕ → Bool). atLeast (k - 1) x && atLeast (k - 1) y)
-            (ap₂ both (same-positive p (b .0) o) (same-negative q (b .1) o′))
-            (ap₂ both (same-negative p (b .0) o) (same-positive q (b .1) o′))
+            (ap₂ both (same-positive p o) (same-negative q o′)) (ap₂ both (same-negative p o) (same-positive q o′))
             ∙ keeps-edge (old .negative) (vertexFits k old) (negativeFits k old) p q (kept-negative p q e);
       }

@@ -8,7 +8,7 @@ use lib.Bits.{bitAnd}
 use lib.ListN.{getD}
 use Rattle.vertex_set.specs.Sets.{mem, collect, size}
 use Rattle.signed_graph.specs.Graphs.{tableOf}
-use Rattle.reduction.specs.Collections.{Collection, Undirected, vertexFits, positiveFits, negativeFits}
+use Rattle.reduction.specs.Collections.{Collection, vertexFits, positiveFits, negativeFits}
 
 -- a has at least x vertices, and b at least y
 unfoldable pub enough : ℕ → ℕ → ℕ → ℕ → Bool
@@ -40,7 +40,6 @@ differing a b = collect 64 (λ p. not (eqb (getD a p 0) (getD b p 0)))
 
 -- what is outside look fits k already: a vertex with an edge that is not of look, and an edge with no vertex of look
 pub record Settled (k : ℕ) (c : Collection) (look : ℕ) : Type 0 where
-  pub undirected : Undirected c
   pub vertex : (p q : ℕ) → (c .positive p q || c .negative p q) ≡ true → mem p look ≡ false → vertexFits k c p ≡ true
   pub positive : (p q : ℕ) → c .positive p q ≡ true → mem p look ≡ false → mem q look ≡ false → positiveFits k c p q ≡ true
   pub negative : (p q : ℕ) → c .negative p q ≡ true → mem p look ≡ false → mem q look ≡ false → negativeFits k c p q ≡ true

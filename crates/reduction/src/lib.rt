@@ -138,9 +138,9 @@ struct Kept {
     fallen: u64,
 }
 
-// A round that looks at the vertices of look and at the edges that have one of them; the others fit already.
+// A round over a sound graph that looks at the vertices of look and at the edges that have one of them; the others fit already.
 fn round(g: SignedGraph, k: u64, look: u64) -> Kept
-    requires { ⌜ Settled k (edgesOf g) look ⌝ }
+    requires { ⌜ (sound g ≡ true) × (Settled k (edgesOf g) look) ⌝ }
     ensures { λ r. ⌜ r .graph ≡ round g k ⌝ }
     ensures { λ r. ⌜ r .fallen ≡ fallen g k ⌝ }
 {

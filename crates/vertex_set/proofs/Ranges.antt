@@ -43,6 +43,16 @@ module _ (f : ℕ → Bool) where
   pub all-end : (n p : ℕ) → p ≤ n → n ≤ p → all p f ≡ true → all n f ≡ true
   all-end n p a b e = let same : p ≡ n = omega arith in subst (λ (z : ℕ). all z f ≡ true) same e
 
+  -- where not all pass, one does not
+  pub all-missed : {A : Type 0} (n : ℕ) → all n f ≡ false → ((p : ℕ) → p < n → f p ≡ false → A) → A
+  unfolding all
+  all-missed zero e miss = clash true refl e
+  all-missed {A} (suc n) e miss = go (all-missed n)
+    where
+      go : (all n f ≡ false → ((p : ℕ) → p < n → f p ≡ false → A) → A) → A
+      go next =
+          cases A (f n) (λ t. next (and-other (f n) (all n f) e t) (λ p k. miss p (omega arith))) (λ t. miss n (omega arith) t)
+
   pub all-fails : (n p : ℕ) → p < n → f p ≡ false → all n f ≡ false
   all-fails n p h e = refute (all n f) (λ t. clash (f p) (all-at n t p h) e)
 
