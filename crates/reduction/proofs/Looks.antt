@@ -20,7 +20,7 @@ use Rattle.signed_graph.proofs.Soundness.{Sound, to-sound}
 use Rattle.signed_graph.proofs.Tables.{table-cong}
 use Rattle.reduction.specs.Collections.{Collection, edgesOf, vertexFits, positiveFits, negativeFits}
 use Rattle.reduction.specs.Reductions.{keepsPositive, keepsNegative, round, fallen}
-use Rattle.reduction.specs.Looks.{shares, sifted, stays, keptRow, keptTable, differing, Settled}
+use Rattle.reduction.specs.Looks.{shares, sifted, stays, keptTable, differing, Settled}
 use Rattle.reduction.proofs.Striking.{sifted-lt, mem-sifted}
 use Rattle.reduction.proofs.Rounds.{mem-fallen, same-positive-row, same-negative-row}
 use Rattle.reduction.proofs.Counts.{vertex-shares, positive-shares, negative-shares}
@@ -43,8 +43,7 @@ module _ (look able a p allowed due : ℕ) (f : ℕ → Bool)
       go true = mem-ones 64 q ∙ lt-ltb q 64 l
       go false = refl
 
-  pub row-kept : sifted (bitAnd a allowed) due f ≡ keptRow look able f a p
-  unfolding keptRow
+  pub row-kept : sifted (bitAnd a allowed) due f ≡ collect 64 (stays look able f a p)
   row-kept =
       collect-is 64 (sifted (bitAnd a allowed) due f) (stays look able f a p) (sifted-lt (bitAnd a allowed) due f) (λ q l.
       mem-sifted (bitAnd a allowed) due f q l

@@ -10,7 +10,7 @@ ghost use Rattle.signed_graph.specs.Soundness.{sound};
 ghost use Rattle.signed_graph.specs.Calls.{numberOf, refusalNumber};
 ghost use Rattle.reduction.specs.Collections.{edgesOf};
 ghost use Rattle.reduction.specs.Reductions.{Reduction, round, fallen, reduced};
-ghost use Rattle.reduction.specs.Looks.{enough, shares, sifted, keptRow, keptTable, differing, Settled};
+ghost use Rattle.reduction.specs.Looks.{enough, shares, sifted, keptTable, differing, Settled};
 
 // The set of all 64 vertices.
 const ALL: u64 = 0xffff_ffff_ffff_ffff;
@@ -76,27 +76,9 @@ fn sift<'a>(
     kept
 }
 
-// The row a of p without its dropped partners. A partner q stays where both are able and, if one of them is of look,
-// a & positive[q] has at least x vertices and b & negative[q] at least y.
-fn kept_row<'a>(
-    p: usize,
-    look: u64,
-    able: u64,
-    a: u64,
-    x: u64,
-    b: u64,
-    y: u64,
-    positive: &'a [u64; 64],
-    negative: &'a [u64; 64],
-) -> u64
-    ensures { λ r. ⌜ r ≡ keptRow look able (shares (now (positive .entry)) (now (negative .entry)) a x b y) a p ⌝ }
-{
-    let allowed = choose(able, p, able, 0);
-    let due = choose(look, p, ALL, look);
-    sift(a & allowed, due, a, x, b, y, positive, negative)
-}
-
-// The table own, positive or negative, without its dropped edges, row by row; other is the table of the other sign.
+// The table own, positive or negative, without its dropped edges; other is the table of the other sign. An edge p, q stays
+// where both vertices are able and, if one of them is of look, own[p] & positive[q] has at least x vertices and
+// other[p] & negative[q] at least y.
 fn kept_table<'a>(
     look: u64,
     able: u64,
@@ -112,7 +94,10 @@ fn kept_table<'a>(
     let mut rows = [0u64; 64];
     let mut p: usize = 0;
     while p < 64 {
-        rows[p] = kept_row(p, look, able, own[p], x, other[p], y, positive, negative);
+        let row = own[p];
+        let allowed = choose(able, p, able, 0);
+        let due = choose(look, p, ALL, look);
+        rows[p] = sift(row & allowed, due, row, x, other[p], y, positive, negative);
         p += 1;
     }
     rows
