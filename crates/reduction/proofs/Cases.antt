@@ -2,18 +2,20 @@
 use mathlib.Core.Path.{_≡_, refl}
 use mathlib.Core.List.{[], _∷_}
 use lib.ListN.{replicate}
+use Rattle.vertex_set.specs.Lists.{select}
 use Rattle.vertex_set.specs.Ranges as R
 use Rattle.vertex_set.specs.Sets as S
 use Rattle.signed_graph.specs.declared.SignedGraph.{SignedGraph}
-use Rattle.vertex_set.specs.Lists.{select}
+use Rattle.signed_graph.specs.declared.Check.the-variants.{Accepted}
 use Rattle.signed_graph.specs.Graphs.{vertices, edgeCount, tableOf}
 use Rattle.signed_graph.specs.Samples.{sampleA}
+use Rattle.signed_graph.specs.Soundness.{sound, whole, loopless, symmetric, confined, unambiguous}
 use Rattle.clique.specs.Balance.{balanced, allAgree, left, right}
 use Rattle.clique.specs.Groups.{floor, extension, isGroup}
 use Rattle.clique.specs.Order.{choices, subsets, groups}
 use Rattle.clique.proofs.Cases.{set}
 use Rattle.reduction.specs.Collections.{atLeast, vertexFits, positiveFits, negativeFits}
-use Rattle.reduction.specs.Reductions.{round, fallen, rounds, reducedGraph}
+use Rattle.reduction.specs.Reductions.{round, fallen, rounds, reducedGraph, reduced}
 
 -- A without its edges at vertex 4
 abbrev pub coreA : SignedGraph
@@ -25,13 +27,13 @@ coreA =
     }
 
 pub record Reductions : Type 0 where
-  pub T6 : reducedGraph sampleA 2 ≡ coreA
-  pub T6-edges : edgeCount coreA ≡ 6
-  pub T6-at-1 : reducedGraph sampleA 1 ≡ sampleA
-  pub T6-at-1-edges : edgeCount sampleA ≡ 8
+  pub T6 : reduced sampleA 2 ≡ record { outcome = Accepted; graph = coreA }
+  pub T6-edges : edgeCount (reduced sampleA 2 .graph) ≡ 6
+  pub T6-at-1 : reduced sampleA 1 ≡ record { outcome = Accepted; graph = sampleA }
+  pub T6-at-1-edges : edgeCount (reduced sampleA 1 .graph) ≡ 8
 
 pub cases-reductions : Reductions
-unfolding reducedGraph rounds round fallen vertexFits positiveFits negativeFits atLeast tableOf edgeCount R.all R.count R.sum R.gather S.mem S.collect
+unfolding reducedGraph rounds round fallen vertexFits positiveFits negativeFits atLeast tableOf edgeCount sound whole loopless symmetric confined unambiguous R.all R.count R.sum R.gather S.mem S.collect
 cases-reductions = record { T6 = refl; T6-edges = refl; T6-at-1 = refl; T6-at-1-edges = refl }
 
 -- its group, listed from A and from A reduced
