@@ -1,5 +1,5 @@
 -- Document 01's case T6, which computes: A reduced for 2 keeps 6 edges, and for 1 all 8; its group. Assumes nothing.
-use mathlib.Core.Path.{_≡_, refl}
+use mathlib.Core.Path.{_≡_, refl, ap}
 use mathlib.Core.List.{[], _∷_}
 use lib.ListN.{replicate}
 use Rattle.vertex_set.specs.Lists.{select}
@@ -14,6 +14,7 @@ use Rattle.clique.specs.Balance.{balanced, allAgree, left, right}
 use Rattle.clique.specs.Groups.{floor, extension, isGroup}
 use Rattle.clique.specs.Order.{choices, subsets, groups}
 use Rattle.clique.proofs.Cases.{set}
+use Rattle.reduction.specs.declared.Reduced.{Reduced}
 use Rattle.reduction.specs.Collections.{atLeast, vertexFits, positiveFits, negativeFits}
 use Rattle.reduction.specs.Reductions.{round, fallen, rounds, reducedGraph, reduced}
 
@@ -32,9 +33,24 @@ pub record Reductions : Type 0 where
   pub T6-at-1 : reduced sampleA 1 ≡ record { outcome = Accepted; graph = sampleA }
   pub T6-at-1-edges : edgeCount (reduced sampleA 1 .graph) ≡ 8
 
+-- each is computed once
+at-2 : reduced sampleA 2 ≡ record { outcome = Accepted; graph = coreA }
+unfolding reducedGraph rounds round fallen vertexFits positiveFits negativeFits atLeast tableOf sound whole loopless symmetric confined unambiguous R.all R.count R.gather S.mem S.collect
+at-2 = refl
+
+at-1 : reduced sampleA 1 ≡ record { outcome = Accepted; graph = sampleA }
+unfolding reducedGraph rounds round fallen vertexFits positiveFits negativeFits atLeast tableOf sound whole loopless symmetric confined unambiguous R.all R.count R.gather S.mem S.collect
+at-1 = refl
+
 pub cases-reductions : Reductions
-unfolding reducedGraph rounds round fallen vertexFits positiveFits negativeFits atLeast tableOf edgeCount sound whole loopless symmetric confined unambiguous R.all R.count R.sum R.gather S.mem S.collect
-cases-reductions = record { T6 = refl; T6-edges = refl; T6-at-1 = refl; T6-at-1-edges = refl }
+unfolding edgeCount R.count R.sum S.mem
+cases-reductions =
+    record {
+      T6 = at-2;
+      T6-edges = ap (λ (r : Reduced). edgeCount (r .graph)) at-2;
+      T6-at-1 = at-1;
+      T6-at-1-edges = ap (λ (r : Reduced). edgeCount (r .graph)) at-1;
+    }
 
 -- its group, listed from A and from A reduced
 pub record Groups : Type 0 where
