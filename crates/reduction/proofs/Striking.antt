@@ -13,7 +13,7 @@ use borrow.Author.Tests.{eqb-true, ltb-true, lt-ltb, le-ltb, eq-eqb}
 use Rattle.vertex_set.specs.Sets.{mem, lowest, single}
 use Rattle.vertex_set.proofs.Booleans.{iff, and-left, and-right}
 use Rattle.vertex_set.proofs.Membership.{mem-none, mem-and, mem-minus, mem-ones}
-use Rattle.vertex_set.proofs.Collections.{collect-lt, collect-at, collect-is}
+use Rattle.vertex_set.proofs.Collections.{collect-lt, collect-at, collect-is, mem-single}
 use Rattle.vertex_set.proofs.LowestVertex.{rest, rest-lt, mem-rest, lowest-in}
 use Rattle.reduction.specs.Looks.{sifted, differing}
 
@@ -26,10 +26,6 @@ unfolding sifted
 mem-sifted s look f q l = collect-at (λ q. mem q s && (not (mem q look) || f q)) 64 q l
 
 -- ---- one vertex
-
-mem-single : (p q : ℕ) → q < 64 → mem q (single p) ≡ eqb q p
-unfolding single
-mem-single p q l = collect-at (λ q. eqb q p) 64 q l
 
 pub stay : (s p : ℕ) (t : Bool) → s < 2 ^ 64 → t ≡ true → s ≡ sifted s (single p) (λ q. t)
 unfolding sifted
