@@ -7,7 +7,7 @@ use mathlib.Core.Logic.{_↔_}
 use mathlib.Core.Bool.{Bool, true, false, not, _&&_}
 use mathlib.Core.List.{List·Memᴰ}
 use lib.Dec.{leb, ltb, eqb}
-use borrow.Author.Tests.{leb-true, ltb-true, lt-ltb, eqb-true, eq-eqb, not-true}
+use borrow.Author.Tests.{leb-true, le-leb, ltb-true, lt-ltb, eqb-true, eq-eqb, not-true}
 use Rattle.vertex_set.specs.Lists.{Sorted}
 use Rattle.vertex_set.specs.Sets.{mem, Subset, insert, size}
 use Rattle.vertex_set.proofs.Lists.{selected, select-keeps, sorted-select}
@@ -27,6 +27,12 @@ use Rattle.clique.proofs.Order.{agree-below, differ-at, subsets-sorted,
 pub floor-least : (k l r : ℕ) → floor k l r ≡ true → (k ≤ l) × (k ≤ r)
 unfolding floor
 floor-least k l r e = (leb-true k l (and-left _ _ e), leb-true k r (and-right (leb k l) _ e))
+
+-- and larger sides are large enough too
+pub floor-mono : (k l r m n : ℕ) → l ≤ m → r ≤ n → floor k l r ≡ true → floor k m n ≡ true
+unfolding floor
+floor-mono k l r m n a b e =
+    and-intro (leb k m) (leb k n) (le-leb k m (omega (arith, floor-least k l r e .0))) (le-leb k n (omega (arith, floor-least k l r e .1)))
 
 module _ (g : SignedGraph) (so : Sound g) where
   -- ---- maximal: no single vertex extends

@@ -4,7 +4,7 @@ pub mod Groups
 pub mod Verdicts
 mod FirstPairs
 mod CommonParts
-mod Extension
+pub mod Extension
 mod OutOfRange
 mod MissingEdges
 mod OddTriples

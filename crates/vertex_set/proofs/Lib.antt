@@ -1,6 +1,7 @@
 pub mod Booleans
 pub mod Alternatives
 pub mod Lists
+pub mod Buffers
 pub mod Ranges
 pub mod Membership
 pub mod Collections

@@ -69,7 +69,7 @@ module _ {A : Type 0} (f : A → Bool) where
       go true e r = rw (e, select) (h .0, r)
       go false e r = rw (e, select) r
 
-  -- what is selected passes, and what passes is selected
+  -- what is selected passes and is of the list, and what of the list passes is selected
   pub selected : (x : A) (l : List A) → List·Memᴰ x (select f l) → f x ≡ true
   unfolding select
   selected x [] m = absurd (List·Memᴰ·not-nil m)
@@ -82,6 +82,10 @@ module _ {A : Type 0} (f : A → Bool) where
       go : (b : Bool) → f y ≡ b → (List·Memᴰ x (select f l) → f x ≡ true) → f x ≡ true
       go true e r = at e r (rw (e, select) at m)
       go false e r = r (rw (e, select) at m)
+
+  pub select-from : (x : A) (l : List A) → List·Memᴰ x (select f l) → List·Memᴰ x l
+  select-from x l m =
+      all-mem (λ y. List·Memᴰ y l) x (select f l) (all-select (λ y. List·Memᴰ y l) l (mem-all (λ y. List·Memᴰ y l) l (λ y n. n))) m
 
   pub select-keeps : (x : A) (l : List A) → f x ≡ true → List·Memᴰ x l → List·Memᴰ x (select f l)
   unfolding select

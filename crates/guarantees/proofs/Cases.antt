@@ -1,0 +1,177 @@
+-- Document 01's cases T1 to T12 and its three buffers, in its order and words, by the definitions that the calls answer by.
+-- Assumes nothing.
+use Prim.Native.Nat.{ℕ, _/_, _≤_, min}
+use native.Mathlib.Nat.{min-zero}
+use native.Mathlib.Omega.{arith}
+use mathlib.Core.Path.{_≡_, refl, ap, ap₂, _∙_}
+use mathlib.Core.Bool.{true}
+use mathlib.Core.List.{List, [], _∷_, _++_, map}
+use lib.ListN.{length, drop-of-length-le}
+use borrow.Author.Tests.{le-leb}
+use Rattle.vertex_set.specs.Lists.{select}
+use Rattle.vertex_set.specs.Ranges as R
+use Rattle.vertex_set.specs.Sets as S
+use Rattle.signed_graph.specs.declared.SignedGraph.{SignedGraph}
+use Rattle.signed_graph.specs.declared.Check.{Check}
+use Rattle.signed_graph.specs.declared.Check.the-variants.{Accepted}
+use Rattle.signed_graph.specs.Graphs.{edgeless, edgeCount}
+use Rattle.signed_graph.specs.Samples.{triangle, chain, sampleA}
+use Rattle.signed_graph.specs.Soundness.{sound, whole, loopless, symmetric, confined, unambiguous}
+use Rattle.signed_graph.specs.Calls.{checkBy, checkOf}
+use Rattle.clique.specs.declared.Classified.the-variants.{As}
+use Rattle.clique.specs.declared.Verdict.the-variants.{MissingEdge, Unbalanced, TooSmall, Extensible}
+use Rattle.clique.specs.Balance.{left, right}
+use Rattle.clique.specs.Groups.{isGroup}
+use Rattle.clique.specs.Order.{difference, precedes, choices, subsets, groups}
+use Rattle.clique.specs.Verdicts as verdicts
+use Rattle.clique.specs.Verdicts.{classified}
+use Rattle.clique.proofs.Cases.{set, samples-sound, cases-groups, cases-verdicts}
+use Rattle.reduction.specs.Reductions.{reduced}
+use Rattle.reduction.proofs.Cases as reduction
+use Rattle.edge_list.proofs.Cases.{GraphA, graph-A}
+use Rattle.listing.specs.declared.Bookmark.the-variants.{Start, After}
+use Rattle.listing.specs.declared.End.the-variants.{Finished}
+use Rattle.listing.specs.declared.Finding.the-variants.{Found, NoGroup}
+use Rattle.listing.specs.declared.LargestGroup.{LargestGroup}
+use Rattle.listing.specs.Listing.{Item, itemOf, listing}
+use Rattle.listing.specs.Records.{bytesOf, sidesRecord}
+use Rattle.listing.specs.Pages.{due, nextMark, records, answer, filled}
+use Rattle.listing.specs.Calls.{setOf, dueGroups, pageBy, bytesBy, pageOf, pageBytes}
+use Rattle.listing.specs.Largest.{largestOf, largestBy, largestGroup, numberOf}
+
+-- a group by its left and its right vertices
+abbrev group : List ℕ → List ℕ → Item
+group l r = record { vertices = set (l ++ r); left = set l; right = set r }
+
+pub record Cases : Type 0 where
+  -- the book of A is read as A
+  pub A : GraphA
+  -- n = 0: no group, biggest 12, finished at Start
+  pub T1 : (k : ℕ) → listing (edgeless 0) k ≡ []
+  pub T1-largest : (k : ℕ) → k ≤ 32 → largestGroup (edgeless 0) k ≡ record { outcome = NoGroup; left = 0; right = 0 }
+  pub T1-12 : (k : ℕ) → k ≤ 32 → numberOf (largestGroup (edgeless 0) k .outcome) ≡ 12
+  pub T1-page : (k : ℕ) → k ≤ 32 → (room : ℕ)
+      → pageOf (edgeless 0) k Start room ≡ record { outcome = Accepted; count = 0; next = Start; end = Finished }
+  -- n = 1: k = 0 gives `0 |`, k = 1 none
+  pub T2-at-0 : listing (edgeless 1) 0 ≡ group (0 ∷ []) [] ∷ []
+  pub T2-at-1 : listing (edgeless 1) 1 ≡ []
+  -- three paths all opposing, k = 1: `0 | 1`, `0 | 2`, `1 | 2`
+  pub T3 : listing triangle 1 ≡ group (0 ∷ []) (1 ∷ []) ∷ group (0 ∷ []) (2 ∷ []) ∷ group (1 ∷ []) (2 ∷ []) ∷ []
+  -- 0,1 and 1,2 track, 0,2 not given, k = 0: `0 1 |`, `1 2 |`
+  pub T4 : listing chain 0 ≡ group (0 ∷ 1 ∷ []) [] ∷ group (1 ∷ 2 ∷ []) [] ∷ []
+  -- A, k = 1: as printed
+  pub T5 : listing sampleA 1 ≡ group (0 ∷ 1 ∷ []) (2 ∷ 3 ∷ []) ∷ group (0 ∷ 4 ∷ []) (2 ∷ []) ∷ []
+  pub T5-largest : largestGroup sampleA 1 ≡ record { outcome = Found; left = set (0 ∷ 1 ∷ []); right = set (2 ∷ 3 ∷ []) }
+  -- A, k = 2: `0 1 | 2 3`; cut keeps 6 pairs (at k = 1 all 8)
+  pub T6 : listing sampleA 2 ≡ group (0 ∷ 1 ∷ []) (2 ∷ 3 ∷ []) ∷ []
+  pub T6-edges : edgeCount (reduced sampleA 2 .graph) ≡ 6
+  pub T6-at-1-edges : edgeCount (reduced sampleA 1 .graph) ≡ 8
+  -- A, k = 3: none
+  pub T7 : listing sampleA 3 ≡ []
+  -- A, k = 1, {0,1,4}: missing 1,4
+  pub T8 : classified sampleA 1 (set (0 ∷ 1 ∷ 4 ∷ [])) ≡ As (MissingEdge 1 4)
+  -- A, k = 1, {0,2}: widens by 1
+  pub T9 : classified sampleA 1 (set (0 ∷ 2 ∷ [])) ≡ As (Extensible 1)
+  -- T3's sheet, k = 1, {0,1,2}: torn 0,1,2
+  pub T10 : classified triangle 1 (set (0 ∷ 1 ∷ 2 ∷ [])) ≡ As (Unbalanced 0 1 2)
+  -- A, k = 2, {0,2,4}: short 2, 1
+  pub T11 : classified sampleA 2 (set (0 ∷ 2 ∷ 4 ∷ [])) ≡ As (TooSmall 2 1)
+  -- A, k = 1, After {0,1,2,3}, a buffer of 16 bytes: `0 4 | 2`, finished
+  pub T12 : pageOf sampleA 1 (After (set (0 ∷ 1 ∷ 2 ∷ 3 ∷ []))) 16
+      ≡ record { outcome = Accepted; count = 1; next = After (set (0 ∷ 2 ∷ 4 ∷ [])); end = Finished }
+  pub T12-bytes : (buffer : List ℕ) → length buffer ≡ 16
+      → pageBytes sampleA 1 (After (set (0 ∷ 1 ∷ 2 ∷ 3 ∷ []))) buffer
+      ≡ 17 ∷ 0 ∷ 0 ∷ 0 ∷ 0 ∷ 0 ∷ 0 ∷ 0 ∷ 4 ∷ 0 ∷ 0 ∷ 0 ∷ 0 ∷ 0 ∷ 0 ∷ 0 ∷ []
+  -- a buffer of 31 bytes takes one record, 32 two, 15 none
+  pub bytes-31 : pageOf sampleA 1 Start 31 .count ≡ 1
+  pub bytes-32 : pageOf sampleA 1 Start 32 .count ≡ 2
+  pub bytes-15 : pageOf sampleA 1 Start 15 .count ≡ 0
+
+-- ---- the graphs are sound
+
+check-of : (g : SignedGraph) (k : ℕ) → sound g ≡ true → k ≤ 32 → checkOf g k ≡ Accepted
+check-of g k e h = ap₂ checkBy e (le-leb k 32 h)
+
+sound-0 : sound (edgeless 0) ≡ true
+unfolding edgeless sound whole loopless symmetric confined unambiguous R.all S.mem
+sound-0 = refl
+
+-- ---- their listings
+
+at-T1 : (k : ℕ) → listing (edgeless 0) k ≡ []
+unfolding listing groups subsets choices select isGroup edgeless
+at-T1 k = refl
+
+at-T5 : listing sampleA 1 ≡ group (0 ∷ 1 ∷ []) (2 ∷ 3 ∷ []) ∷ group (0 ∷ 4 ∷ []) (2 ∷ []) ∷ []
+unfolding listing left right R.seek S.mem S.collect S.lowest
+at-T5 = ap (map (itemOf sampleA)) (cases-groups .T5)
+
+-- ---- the calls on them
+
+at-T1-largest : (k : ℕ) → k ≤ 32 → largestGroup (edgeless 0) k ≡ record { outcome = NoGroup; left = 0; right = 0 }
+unfolding largestOf
+at-T1-largest k h = ap₂ (λ (c : Check) (l : List Item). largestBy c (largestOf l)) (check-of (edgeless 0) k sound-0 h) (at-T1 k)
+
+at-T1-page : (k : ℕ) → k ≤ 32 → (room : ℕ)
+    → pageOf (edgeless 0) k Start room ≡ record { outcome = Accepted; count = 0; next = Start; end = Finished }
+unfolding answer due nextMark
+at-T1-page k h room =
+    ap₂ (λ (c : Check) (l : List Item). pageBy c Start room (due setOf Start l)) (check-of (edgeless 0) k sound-0 h) (at-T1 k)
+    ∙ rw min-zero
+
+check-A : checkOf sampleA 1 ≡ Accepted
+check-A = check-of sampleA 1 (samples-sound .sound-A) (omega arith)
+
+at-T5-largest : largestGroup sampleA 1 ≡ record { outcome = Found; left = 3; right = 12 }
+unfolding largestOf S.size R.count S.mem
+at-T5-largest = ap₂ (λ (c : Check) (l : List Item). largestBy c (largestOf l)) check-A at-T5
+
+due-T12 : dueGroups sampleA 1 (After 15) ≡ group (0 ∷ 4 ∷ []) (2 ∷ []) ∷ []
+unfolding due select precedes difference S.lowest S.mem R.seek
+due-T12 = ap (due setOf (After 15)) at-T5
+
+at-T12 : pageOf sampleA 1 (After 15) 16 ≡ record { outcome = Accepted; count = 1; next = After 21; end = Finished }
+unfolding answer nextMark
+at-T12 = ap₂ (λ (c : Check) (l : List Item). pageBy c (After 15) 16 l) check-A due-T12
+
+bytes-T12 : (buffer : List ℕ) → length buffer ≡ 16
+    → pageBytes sampleA 1 (After 15) buffer ≡ 17 ∷ 0 ∷ 0 ∷ 0 ∷ 0 ∷ 0 ∷ 0 ∷ 0 ∷ 4 ∷ 0 ∷ 0 ∷ 0 ∷ 0 ∷ 0 ∷ 0 ∷ 0 ∷ []
+unfolding filled records sidesRecord bytesOf
+bytes-T12 buffer h =
+    ap₂ (λ (c : Check) (l : List Item). bytesBy c l buffer) check-A due-T12
+    ∙ rw (h, drop-of-length-le buffer {i = 16} (omega (arith, h)))
+
+-- how many records a buffer of so many bytes takes
+taken : (room : ℕ) → pageOf sampleA 1 Start room .count ≡ min (room / 16) 2
+unfolding answer due
+taken room = ap₂ (λ (c : Check) (l : List Item). pageBy c Start room (due setOf Start l) .count) check-A at-T5
+
+pub cases : Cases
+unfolding listing left right R.seek S.mem S.collect S.lowest
+cases =
+    record {
+      A = graph-A;
+      T1 = at-T1;
+      T1-largest = at-T1-largest;
+      T1-12 = λ k h. ap (λ (r : LargestGroup). numberOf (r .outcome)) (at-T1-largest k h);
+      T1-page = at-T1-page;
+      T2-at-0 = ap (map (itemOf (edgeless 1))) (cases-groups .T2-at-0);
+      T2-at-1 = ap (map (itemOf (edgeless 1))) (cases-groups .T2-at-1);
+      T3 = ap (map (itemOf triangle)) (cases-groups .T3);
+      T4 = ap (map (itemOf chain)) (cases-groups .T4);
+      T5 = at-T5;
+      T5-largest = at-T5-largest;
+      T6 = ap (map (itemOf sampleA)) (reduction.cases-groups .T6);
+      T6-edges = reduction.cases-reductions .T6-edges;
+      T6-at-1-edges = reduction.cases-reductions .T6-at-1-edges;
+      T7 = ap (map (itemOf sampleA)) (cases-groups .T7);
+      T8 = ap₂ verdicts.answerTo check-A (cases-verdicts .T8);
+      T9 = ap₂ verdicts.answerTo check-A (cases-verdicts .T9);
+      T10 = ap₂ verdicts.answerTo (check-of triangle 1 (samples-sound .sound-triangle) (omega arith)) (cases-verdicts .T10);
+      T11 = ap₂ verdicts.answerTo (check-of sampleA 2 (samples-sound .sound-A) (omega arith)) (cases-verdicts .T11);
+      T12 = at-T12;
+      T12-bytes = bytes-T12;
+      bytes-31 = taken 31;
+      bytes-32 = taken 32;
+      bytes-15 = taken 15;
+    }

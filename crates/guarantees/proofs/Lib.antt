@@ -1,0 +1,3 @@
+pub mod PageLists
+pub mod Demand
+pub mod Cases

@@ -1,0 +1,2 @@
+pub mod PageLists
+pub mod Demand

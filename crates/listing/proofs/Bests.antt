@@ -1,0 +1,229 @@
+-- The largest group, found by keeping the largest so far. Assumes nothing.
+use Prim.Native.Nat.{ℕ, _^_, _≤_, _<_}
+use native.Mathlib.Omega.{arith}
+use native.Mathlib.Decide.{ℕ-discrete}
+use mathlib.Core.Path.{_≡_, refl, sym, ap, ap₂, _∙_, subst}
+use mathlib.Core.Bool.{Bool, true, false, _&&_}
+use mathlib.Core.List.{List, [], _∷_, _++_, List·Memᴰ}
+use mathlib.Core.Option.{Option, none, some}
+use lib.Dec.{leb, ltb}
+use lib.ListN.{getD}
+use lib.Bits.{bitOr}
+use borrow.Author.Tests.{ltb-true, ltb-false, lt-ltb, le-ltb}
+use Rattle.vertex_set.specs.Lists.{All}
+use Rattle.vertex_set.specs.Sets.{mem, Subset, size, lowest}
+use Rattle.vertex_set.proofs.Booleans.{cases, or-cases}
+use Rattle.vertex_set.proofs.Lists.{mem-all}
+use Rattle.vertex_set.proofs.Membership.{union-left, union-right, union-cases}
+use Rattle.vertex_set.proofs.Sizes.{size-subset, size-none}
+use Rattle.signed_graph.specs.declared.SignedGraph.{SignedGraph}
+use Rattle.signed_graph.specs.Graphs.{vertices}
+use Rattle.signed_graph.specs.Soundness.{sound}
+use Rattle.signed_graph.specs.Calls.{checkBy}
+use Rattle.signed_graph.proofs.Soundness.{Sound, to-sound}
+use Rattle.clique.proofs.Balance.{usable-64}
+use Rattle.listing.specs.declared.Bookmark.the-variants.{Start}
+use Rattle.listing.specs.declared.Finding.the-variants.{Found, NoGroup}
+use Rattle.listing.specs.declared.LargestGroup.{LargestGroup}
+use Rattle.listing.specs.declared.Node.{Node}
+use Rattle.listing.specs.declared.Best.{Best}
+use Rattle.listing.specs.declared.Progress.{Progress}
+use Rattle.listing.specs.Listing.{Item, Listed, listing}
+use Rattle.listing.specs.Pages.{due}
+use Rattle.listing.specs.Calls.{setOf, dueGroups}
+use Rattle.listing.specs.Largest.{sizeOf, larger, largestOf, answerTo, largestBy, largestGroup, numberOf, largestNumberBy, largestNumber}
+use Rattle.listing.specs.Nodes.{chosen, undecided, whole, putIn, withVertex, leaveOut, Valid, Below, Same, itemsBelow, groupAt, leafItem, rootOf}
+use Rattle.listing.specs.Search.{graphOf, Advances, leafItems, bestItem, better, bestOf, Finds}
+use Rattle.listing.proofs.Nodes.{of-left, of-right, of-undecided}
+use Rattle.listing.proofs.Below.{of-below}
+use Rattle.listing.proofs.Leaves.{root-valid}
+use Rattle.listing.proofs.Listing.{listing-sorted, listing-exact}
+use Rattle.listing.proofs.LargestOf.{largest-found}
+use Rattle.listing.proofs.Search.{due-listed, none-due, same-due, leaf-due, step-in, step-out, step-due, all-due}
+
+-- ---- lists
+
+pub best-append : (b : Best) (xs ys : List Item) → bestOf b (xs ++ ys) ≡ bestOf (bestOf b xs) ys
+unfolding bestOf
+best-append b [] ys = refl
+best-append b (x ∷ xs) ys = best-append (better b x) xs ys
+
+better-not : (b : Best) (x : Item) → sizeOf x ≤ b .size → better b x ≡ b
+better-not b x h = ap (λ (t : Bool). elim t [ true ↦ bestItem x | false ↦ b ]) (le-ltb (b .size) (sizeOf x) h)
+
+better-so : (b : Best) (x : Item) → b .size < sizeOf x → better b x ≡ bestItem x
+better-so b x h = ap (λ (t : Bool). elim t [ true ↦ bestItem x | false ↦ b ]) (lt-ltb (b .size) (sizeOf x) h)
+
+best-stays : (b : Best) (l : List Item) → All (λ x. sizeOf x ≤ b .size) l → bestOf b l ≡ b
+unfolding bestOf
+best-stays b [] h = refl
+best-stays b (x ∷ l) h = ap (λ (c : Best). bestOf c l) (better-not b x (h .0)) ∙ best-stays b l (h .1)
+
+-- the largest so far against the largest of a list
+abbrev against : Best → Option Item → Best
+against b none = b
+against b (some y) = better b y
+
+best-largest : (b : Best) (l : List Item) → bestOf b l ≡ against b (largestOf l)
+unfolding bestOf largestOf
+best-largest b [] = refl
+best-largest b (x ∷ l) = best-largest (better b x) l ∙ step (largestOf l)
+  where
+    two : (y : Item) → (p : Bool) → ltb (b .size) (sizeOf x) ≡ p → (q : Bool) → ltb (sizeOf x) (sizeOf y) ≡ q
+        → better (elim p [ true ↦ bestItem x | false ↦ b ]) y ≡ better b (elim q [ true ↦ y | false ↦ x ])
+    two y true e true f =
+        better-so (bestItem x) y (ltb-true (sizeOf x) (sizeOf y) f)
+        ∙ sym (better-so b y (omega (arith, ltb-true (b .size) (sizeOf x) e, ltb-true (sizeOf x) (sizeOf y) f)))
+    two y true e false f =
+        better-not (bestItem x) y (ltb-false (sizeOf x) (sizeOf y) f) ∙ sym (better-so b x (ltb-true (b .size) (sizeOf x) e))
+    two y false e true f = refl
+    two y false e false f =
+        better-not b y (omega (arith, ltb-false (b .size) (sizeOf x) e, ltb-false (sizeOf x) (sizeOf y) f))
+        ∙ sym (better-not b x (ltb-false (b .size) (sizeOf x) e))
+
+    step : (o : Option Item) → against (better b x) o ≡ better b (larger x o)
+    step none = refl
+    step (some y) = two y (ltb (b .size) (sizeOf x)) refl (ltb (sizeOf x) (sizeOf y)) refl
+
+-- ---- a node
+
+module _ (positive negative : List ℕ) (k : ℕ) (d : Node) (b : Best) where
+  -- no set below has more vertices than the largest so far
+  pub finds-none : (c u : ℕ) → c ≡ chosen d → u ≡ undecided d → size (bitOr c u) ≤ b .size → Finds positive negative k d b b
+  finds-none c u is-c is-u h n so va =
+      sym (best-stays b (itemsBelow d (dueGroups (graphOf n positive negative) k Start))
+      (mem-all (λ x. sizeOf x ≤ b .size) (itemsBelow d (dueGroups (graphOf n positive negative) k Start)) (λ x i.
+      let r : List·Memᴰ x (dueGroups (graphOf n positive negative) k Start) × Below d x = of-below d (dueGroups (graphOf n positive negative) k Start) x i in
+      few x (due-listed (graphOf n positive negative) (to-sound (graphOf n positive negative) so) k Start x (r .0)) (r .1))))
+    where
+      all-in : (n : ℕ) (x : Item) → Listed (graphOf n positive negative) k x → Below d x → Subset (x .vertices) (whole d)
+      all-in n x lx bl p m =
+          or-cases (mem p (whole d) ≡ true) (mem p (x .left)) (mem p (x .right)) (sym (lx .sides .split .either p) ∙ m)
+          (λ y. union-cases (mem p (whole d) ≡ true) p (d .left .chosen) (d .left .candidates) (bl .left .only p y) (of-left d p)
+          (λ z. of-undecided d p (union-left p (d .left .candidates) (d .right .candidates) z)))
+          (λ y. union-cases (mem p (whole d) ≡ true) p (d .right .chosen) (d .right .candidates) (bl .right .only p y) (of-right d p)
+          (λ z. of-undecided d p (union-right p (d .left .candidates) (d .right .candidates) z)))
+
+      few : {n : ℕ} (x : Item) → Listed (graphOf n positive negative) k x → Below d x → sizeOf x ≤ b .size
+      few {n} x lx bl =
+          let e : size (bitOr c u) ≡ size (whole d) = ap₂ (λ (y z : ℕ). size (bitOr y z)) is-c is-u in
+          omega (arith, size-subset (x .vertices) (whole d) (all-in n x lx bl))
+
+  module _ (a : Progress) (adv : Advances positive negative k d a) where
+    pub finds-barren : a .barren ≡ true → Finds positive negative k d b b
+    unfolding bestOf
+    finds-barren e n so va =
+        sym (ap (bestOf b) (none-due (graphOf n positive negative) (to-sound (graphOf n positive negative) so) k Start d (adv n so va .0 e)))
+
+    module _ (e : a .barren ≡ false) where
+      pub finds-leaf : (after : Best) (u : ℕ) → u ≡ undecided (a .node) → u ≡ 0 → after ≡ bestOf b (leafItems k Start (a .node))
+          → Finds positive negative k d b after
+      finds-leaf after u is-u done is n so va =
+          let s : Same (graphOf n positive negative) k d (a .node) = adv n so va .1 e in
+          is ∙ ap (bestOf b) (sym
+          (same-due (graphOf n positive negative) (to-sound (graphOf n positive negative) so) k Start d (a .node) s
+          ∙ leaf-due (graphOf n positive negative) (to-sound (graphOf n positive negative) so) k Start (a .node) (s .valid) (sym is-u ∙ done)))
+
+      pub finds-both : (u v : ℕ) → u ≡ undecided (a .node) → (u ≡ 0 → ⊥) → v ≡ lowest u → (in-child : Node)
+          → in-child ≡ putIn (a .node) v (getD positive v 0) (getD negative v 0) → (first : Best) → Finds positive negative k in-child b first
+          → (out-child : Node) → out-child ≡ leaveOut (a .node) v → (after : Best) → Finds positive negative k out-child first after
+          → Finds positive negative k d b after
+      finds-both u v is-u open-u is-v in-child in-is first one out-child out-is after two n so va =
+          let s : Same (graphOf n positive negative) k d (a .node) = adv n so va .1 e in
+          let is : v ≡ lowest (undecided (a .node)) = is-v ∙ ap lowest is-u in
+          let pos : 0 < undecided (a .node) = omega (arith, open-u) in
+          let A : List Item = itemsBelow (withVertex (graphOf n positive negative) (a .node) v) (dueGroups (graphOf n positive negative) k Start) in
+          let B : List Item = itemsBelow (leaveOut (a .node) v) (dueGroups (graphOf n positive negative) k Start) in
+          let first-is : first ≡ bestOf b A =
+          one n so (subst (Valid (graphOf n positive negative)) (sym in-is)
+          (step-in (graphOf n positive negative) (to-sound (graphOf n positive negative) so) k Start (a .node) (s .valid) v is pos))
+          ∙ ap (λ (x : Node). bestOf b (itemsBelow x (dueGroups (graphOf n positive negative) k Start))) in-is in
+          let after-is : after ≡ bestOf first B =
+          two n so (subst (Valid (graphOf n positive negative)) (sym out-is)
+          (step-out (graphOf n positive negative) (to-sound (graphOf n positive negative) so) k Start (a .node) (s .valid) v is pos))
+          ∙ ap (λ (x : Node). bestOf first (itemsBelow x (dueGroups (graphOf n positive negative) k Start))) out-is in
+          after-is ∙ ap (λ (x : Best). bestOf x B) first-is ∙ sym (best-append b A B)
+          ∙ ap (bestOf b) (sym
+          (same-due (graphOf n positive negative) (to-sound (graphOf n positive negative) so) k Start d (a .node) s
+          ∙ step-due (graphOf n positive negative) (to-sound (graphOf n positive negative) so) k Start (a .node) (s .valid) v is pos))
+
+-- ---- the leaf
+
+module _ (k : ℕ) (d : Node) (b : Best) where
+  leaf-as : (t : Bool) → groupAt k d ≡ t → leafItems k Start d ≡ elim t [ true ↦ leafItem d ∷ [] | false ↦ [] ]
+  leaf-as true e = ap (λ (x : Bool). elim (x && true) [ true ↦ leafItem d ∷ [] | false ↦ [] ]) e
+  leaf-as false e = ap (λ (x : Bool). elim (x && true) [ true ↦ leafItem d ∷ [] | false ↦ [] ]) e
+
+  pub leaf-no-group : groupAt k d ≡ false → b ≡ bestOf b (leafItems k Start d)
+  unfolding bestOf
+  leaf-no-group e = sym (ap (bestOf b) (leaf-as false e))
+
+  pub leaf-no-larger : groupAt k d ≡ true → size (chosen d) ≤ b .size → b ≡ bestOf b (leafItems k Start d)
+  unfolding bestOf
+  leaf-no-larger e h = sym (ap (bestOf b) (leaf-as true e) ∙ better-not b (leafItem d) h)
+
+  pub leaf-larger : (s : ℕ) → s ≡ size (chosen d) → groupAt k d ≡ true → b .size < s
+      → record { size = s; left = d .left .chosen; right = d .right .chosen } ≡ bestOf b (leafItems k Start d)
+  unfolding bestOf
+  leaf-larger s is e h =
+      (λ i. record { size = is i; left = d .left .chosen; right = d .right .chosen })
+      ∙ sym (ap (bestOf b) (leaf-as true e) ∙ better-so b (leafItem d) (omega arith))
+
+-- ---- the whole
+
+abbrev nothing : Best
+nothing = record { size = 0; left = 0; right = 0 }
+
+module _ (g : SignedGraph) (k : ℕ) (so : sound g ≡ true) where
+  from-all : (all : ℕ) (top : Node) (best : Best) → all ≡ vertices g → top ≡ rootOf all
+      → Finds (g .positive) (g .negative) k top (record { size = 0; left = 0; right = 0 }) best → best ≡ against nothing (largestOf (listing g k))
+  unfolding due
+  from-all all top best is-all is-top went =
+      let is-root : top ≡ rootOf (vertices g) = is-top ∙ ap rootOf is-all in
+      went (g .n) so (subst (Valid g) (sym is-root) (root-valid g))
+      ∙ ap (λ (x : Node). bestOf nothing (itemsBelow x (dueGroups g k Start))) is-root
+      ∙ ap (bestOf nothing) (all-due g (to-sound g so) k Start) ∙ best-largest nothing (listing g k)
+
+  some-size : (y : Item) → largestOf (listing g k) ≡ some y → 0 < sizeOf y
+  some-size y e =
+      let lx : Listed g k y = listing-exact g (to-sound g so) k y .0 (largest-found (listing g k) (listing-sorted g (to-sound g so) k) y e .listed) in
+      go (ℕ-discrete (sizeOf y) 0) (usable-64 g (to-sound g so) (y .vertices) (lx .group .balanced .usable)) (lx .group .nonempty)
+    where
+      go : Dec (sizeOf y ≡ 0) → y .vertices < 2 ^ 64 → 0 < y .vertices → 0 < sizeOf y
+      go (yes z) fits pos = absurd (let n : y .vertices ≡ 0 = size-none (y .vertices) fits z in omega arith)
+      go (no z) fits pos = omega arith
+
+  module _ (all : ℕ) (top : Node) (best : Best) (is-all : all ≡ vertices g) (is-top : top ≡ rootOf all)
+      (went : Finds (g .positive) (g .negative) k top (record { size = 0; left = 0; right = 0 }) best) where
+    is : (o : Option Item) → largestOf (listing g k) ≡ o → best ≡ against nothing o
+    is o e = from-all all top best is-all is-top went ∙ ap (against nothing) e
+
+    pub largest-none : best .size ≡ 0 → record { outcome = NoGroup; left = 0; right = 0 } ≡ answerTo (largestOf (listing g k))
+    largest-none z = go (largestOf (listing g k)) refl
+      where
+        go : (o : Option Item) → largestOf (listing g k) ≡ o → record { outcome = NoGroup; left = 0; right = 0 } ≡ answerTo (largestOf (listing g k))
+        go none e = sym (ap answerTo e)
+        go (some y) e =
+            absurd (let s : best .size ≡ sizeOf y = ap (λ (x : Best). x .size) (is (some y) e ∙ better-so nothing y (some-size y e)) in
+            omega (arith, some-size y e))
+
+    pub largest-some : (best .size ≡ 0 → ⊥) → record { outcome = Found; left = best .left; right = best .right } ≡ answerTo (largestOf (listing g k))
+    largest-some z = go (largestOf (listing g k)) refl
+      where
+        go : (o : Option Item) → largestOf (listing g k) ≡ o → record { outcome = Found; left = best .left; right = best .right } ≡ answerTo (largestOf (listing g k))
+        go none e = absurd (z (ap (λ (x : Best). x .size) (is none e)))
+        go (some y) e =
+            let i : best ≡ bestItem y = is (some y) e ∙ better-so nothing y (some-size y e) in
+            (λ j. record { outcome = Found; left = i j .left; right = i j .right }) ∙ sym (ap answerTo e)
+
+-- ---- the number of the answer
+
+pub largest-number : (g : SignedGraph) (k : ℕ) → numberOf (largestGroup g k .outcome) ≡ largestNumber g k
+unfolding largestOf
+largest-number g k = go (sound g) (leb k 32) (listing g k)
+  where
+    go : (s small : Bool) (l : List Item) → numberOf (largestBy (checkBy s small) (largestOf l) .outcome) ≡ largestNumberBy s small l
+    go false small l = refl
+    go true false l = refl
+    go true true [] = refl
+    go true true (x ∷ l) = refl

@@ -1,0 +1,17 @@
+pub mod Listing
+pub mod Records
+pub mod Pages
+pub mod Distinct
+pub mod LargestOf
+pub mod Filling
+pub mod Bookmarks
+pub mod Nodes
+pub mod Falling
+pub mod Below
+pub mod Prunes
+pub mod Universals
+pub mod Leaves
+pub mod FreeVertices
+pub mod Advances
+pub mod Search
+pub mod Bests

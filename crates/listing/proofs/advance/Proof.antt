@@ -1,0 +1,22 @@
+-- `listing::advance` meets its contract. Each answer is a law of the test that led to it. Assumes nothing.
+use mathlib.Core.Path.{sym, _∙_}
+use borrow.Author.Needs.{needs}
+use Rattle.listing.proofs.Advances.{advance-short, advance-dominated, advance-settled}
+use Rattle.listing.proofs.advance.Statement.{statement}
+use Rattle.listing.proofs.advance.Tie as tie
+
+returns : tie.Need-returns
+returns c = (λ p m. m, advance-short _ _ _ _ (sym (c .before .is-short .ensures) ∙ c .if1 .taken))
+
+returns-2 : tie.Need-returns-2
+returns-2 c =
+    (λ p m. m, advance-dominated _ _ _ _ _ (c .before .before .before .before .before .before .before .free-sides .ensures) (c .if2 .taken))
+
+returns-3 : tie.Need-returns-3
+returns-3 c =
+    let f = c .before .before .before .before .before .before .before .before .before .before .before .before .free-sides in
+    (c .settle .ensures .0, advance-settled _ _ _ _ (f .result) (f .ensures) _ (c .settle .ensures .1))
+
+pub advance-spec : {M : Type 1} → statement M
+advance-spec =
+    tie.close (tie.spec (λ c κs. search needs) returns (λ c κs. search needs) returns-2 (λ c κs. search needs) returns-3)

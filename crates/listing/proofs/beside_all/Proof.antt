@@ -1,0 +1,48 @@
+-- `listing::beside_all` meets its contract. What is kept fits beside the candidates that are not left. Assumes nothing.
+use native.Mathlib.Omega.{arith}
+use borrow.Author.Needs.{needs}
+use Rattle.vertex_set.specs.Sets.{size}
+use Rattle.vertex_set.proofs.LowestVertex.{lowest-lt, size-rest}
+use Rattle.listing.proofs.FreeVertices.{Passing, passing-begin, passing-step, passing-end, beside-none}
+use Rattle.listing.proofs.beside_all.Statement.{statement}
+use Rattle.listing.proofs.beside_all.Tie as tie
+
+abbrev Inv-loop : tie.InvT-loop
+Inv-loop candidates near far positive negative same₀ cross₀ left₀ same cross left = Passing positive negative candidates near far left same cross
+
+abbrev μ-loop : tie.MeasureT-loop
+μ-loop candidates near far positive negative same₀ cross₀ left₀ same cross left = size left
+
+loop-holds : tie.Need-loop-holds Inv-loop μ-loop
+loop-holds c = passing-begin _ _ _ _ _ (c .fits .candidates .fits)
+
+loop-again : tie.Need-loop-again Inv-loop μ-loop
+loop-again c =
+    let w = c .before .before .before .before .lowest in
+    let one = c .before .before .single in
+    passing-step _ _ _ _ _ (c .before .before .before .before .before .before .loop .inv) (search needs) (w .result) (w .ensures) (one .result) (one .ensures)
+
+returns : tie.Need-returns Inv-loop μ-loop
+returns c = beside-none _ _ _ _ _
+
+returns-2 : tie.Need-returns-2 Inv-loop μ-loop
+returns-2 c = passing-end _ _ _ _ _ (c .before .loop .inv) (c .loop-test .left)
+
+pub beside-all-spec : {M : Type 1} → statement M
+beside-all-spec =
+    tie.close
+    (tie.spec
+    Inv-loop
+    μ-loop
+    loop-holds
+    (λ c κs. search needs)
+    (λ c. omega (arith, c .lowest .ensures, lowest-lt _ (search needs) (c .before .before .loop .inv .sweep .fits)))
+    (λ c. omega (arith, c .lowest .ensures, lowest-lt _ (search needs) (c .before .before .loop .inv .sweep .fits)))
+    (λ c κs. search needs)
+    (λ c. omega (arith, c .before .before .lowest .ensures, lowest-lt _ (search needs) (c .before .before .before .before .loop .inv .sweep .fits)))
+    (λ c. omega (arith, c .before .before .lowest .ensures, lowest-lt _ (search needs) (c .before .before .before .before .loop .inv .sweep .fits)))
+    returns
+    (λ c. search needs)
+    (λ c. omega (arith, size-rest _ (search needs) (c .before .before .before .before .before .before .loop .inv .sweep .fits)))
+    loop-again
+    returns-2)

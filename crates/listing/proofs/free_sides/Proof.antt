@@ -1,0 +1,11 @@
+-- `listing::free_sides` meets its contract: a pass over the candidates of each side. Assumes nothing.
+use borrow.Author.Needs.{needs}
+use Rattle.listing.proofs.FreeVertices.{both-sides}
+use Rattle.listing.proofs.free_sides.Statement.{statement}
+use Rattle.listing.proofs.free_sides.Tie as tie
+
+returns : tie.Need-returns
+returns c = both-sides _ _ _ _ _ _ _ (c .before .beside-all .ensures) (c .beside-all2 .ensures)
+
+pub free-sides-spec : {M : Type 1} → statement M
+free-sides-spec = tie.close (tie.spec (λ c κs. search needs) (λ c κs. search needs) returns)

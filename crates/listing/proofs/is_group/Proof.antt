@@ -1,0 +1,22 @@
+-- `listing::is_group` meets its contract. Each test is one of the definition's. Assumes nothing.
+use mathlib.Core.Path.{sym, ap₂, _∙_}
+use borrow.Author.Needs.{needs}
+use Rattle.clique.specs.Groups.{floor}
+use Rattle.listing.proofs.Leaves.{not-empty, not-extended, large-group}
+use Rattle.listing.proofs.is_group.Statement.{statement}
+use Rattle.listing.proofs.is_group.Tie as tie
+
+returns : tie.Need-returns
+returns c = sym (not-empty _ _ (c .if1 .taken))
+
+returns-2 : tie.Need-returns-2
+returns-2 c = sym (not-extended _ _ (c .if2 .taken))
+
+returns-3 : tie.Need-returns-3
+returns-3 c =
+    c .large-enough .ensures ∙ ap₂ (floor _) (c .before .before .size .ensures) (c .before .size2 .ensures)
+    ∙ sym (large-group _ _ (c .before .before .before .before .before .before .if1 .left) (c .before .before .before .if2 .left))
+
+pub is-group-spec : {M : Type 1} → statement M
+is-group-spec =
+    tie.close (tie.spec returns returns-2 (λ c κs. search needs) (λ c κs. search needs) (λ c κs. search needs) returns-3)

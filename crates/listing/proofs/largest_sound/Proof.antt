@@ -1,0 +1,20 @@
+-- `listing::largest_sound` meets its contract. The search goes from the root, below which all groups are. Assumes nothing.
+use borrow.Author.Needs.{needs}
+use Rattle.signed_graph.specs.Graphs.{vertices}
+use Rattle.listing.proofs.Bests.{largest-none, largest-some}
+use Rattle.listing.proofs.largest_sound.Statement.{statement}
+use Rattle.listing.proofs.largest_sound.Tie as tie
+
+returns : tie.Need-returns
+unfolding vertices
+returns c =
+    largest-none _ _ (c .before .before .before .before .before .before .before .before .pre) _ _ _ (c .before .before .before .before .before .before .before .below .ensures) (c .before .before .before .before .before .before .root .ensures) (c .before .before .largest-below .ensures) (c .if1 .taken)
+
+returns-2 : tie.Need-returns-2
+unfolding vertices
+returns-2 c =
+    largest-some _ _ (c .before .before .before .before .before .before .before .before .pre) _ _ _ (c .before .before .before .before .before .before .before .below .ensures) (c .before .before .before .before .before .before .root .ensures) (c .before .before .largest-below .ensures) (c .if1 .left)
+
+pub largest-sound-spec : {M : Type 1} → statement M
+largest-sound-spec =
+    tie.close (tie.spec (λ c κs. search needs) (λ c κs. search needs) (λ c κs. search needs) returns returns-2)

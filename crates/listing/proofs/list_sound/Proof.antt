@@ -1,0 +1,17 @@
+-- `listing::list_sound` meets its contract. The search goes from the root, below which all groups are. Assumes nothing.
+use borrow.Author.Needs.{needs}
+use Rattle.signed_graph.specs.Graphs.{vertices}
+use Rattle.listing.proofs.Search.{lists-all}
+use Rattle.listing.proofs.list_sound.Statement.{statement}
+use Rattle.listing.proofs.list_sound.Tie as tie
+
+returns : tie.Need-returns
+unfolding vertices
+returns c =
+    let s = c .before .before .before .before .before .before .before .before .before .before in
+    lists-all _ _ _ _ _ _ _ _ (s .pre) (c .before .before .before .before .before .before .before .before .below .ensures)
+    (c .before .before .before .before .before .before .before .root .ensures) (c .before .before .list-below .ensures)
+
+pub list-sound-spec : {M : Type 1} → statement M
+list-sound-spec =
+    tie.close (tie.spec (λ c κs. search needs) (λ c κs. search needs) (λ c κs. search needs) (λ c. search needs) returns)

@@ -1,0 +1,166 @@
+-- A node of the search for groups: sides so far, how they grow, what holds of them, and the groups below. Assumes nothing.
+use Prim.Native.Nat.{ℕ, _-_, _^_, _≤_}
+use mathlib.Core.Path.{_≡_}
+use mathlib.Core.Logic.{_≢_}
+use mathlib.Core.Bool.{Bool, true, false, not, _&&_, _||_}
+use mathlib.Core.List.{List}
+use lib.Dec.{eqb, ltb}
+use lib.ListN.{getD}
+use lib.Bits.{bitAnd, bitOr}
+use Rattle.vertex_set.specs.Lists.{select}
+use Rattle.vertex_set.specs.Sets.{mem, Subset, size, single}
+use Rattle.signed_graph.specs.declared.SignedGraph.{SignedGraph}
+use Rattle.signed_graph.specs.Graphs.{positiveEdge, negativeEdge, vertices}
+use Rattle.clique.specs.Groups.{floor}
+use Rattle.listing.specs.declared.Side.{Side}
+use Rattle.listing.specs.declared.Node.{Node}
+use Rattle.listing.specs.Listing.{Item, Listed}
+
+-- ---- moving on
+
+-- the vertices chosen so far, those still undecided, and both
+abbrev pub chosen : Node → ℕ
+chosen d = bitOr (d .left .chosen) (d .right .chosen)
+
+abbrev pub undecided : Node → ℕ
+undecided d = bitOr (d .left .candidates) (d .right .candidates)
+
+abbrev pub whole : Node → ℕ
+whole d = bitOr (chosen d) (undecided d)
+
+-- all vertices but v
+abbrev pub others : ℕ → ℕ
+others v = 2 ^ 64 - 1 - single v
+
+-- a side once v is chosen, `row` being the partners of v that may be on it; and with v itself
+abbrev pub narrowed : Side → ℕ → ℕ → Side
+narrowed s v row =
+    record { chosen = s .chosen; candidates = bitAnd (bitAnd (s .candidates) row) (others v); excluded = bitAnd (s .excluded) row }
+
+abbrev pub joined : Side → ℕ → Side
+joined s v = record { chosen = bitOr (s .chosen) (single v); candidates = s .candidates; excluded = s .excluded }
+
+-- a side once v is left out
+abbrev pub passedOver : Side → ℕ → Side
+passedOver s v =
+    record {
+      chosen = s .chosen;
+      candidates = bitAnd (s .candidates) (others v);
+      excluded = bitOr (s .excluded) (bitAnd (s .candidates) (single v));
+    }
+
+abbrev pub flip : Node → Node
+flip d = record { left = d .right; right = d .left }
+
+-- where the search starts: these vertices are undecided, and nothing is chosen or left out
+abbrev pub rootOf : ℕ → Node
+rootOf all =
+    let side : Side = record { chosen = 0; candidates = all; excluded = 0 } in
+    record { left = side; right = side }
+
+-- v, which has these positive and negative partners, goes to the left; it goes in where it may; it is left out
+abbrev pub putLeft : Node → ℕ → ℕ → ℕ → Node
+putLeft d v positive negative =
+    record { left = joined (narrowed (d .left) v positive) v; right = narrowed (d .right) v negative }
+
+unfoldable pub putIn : Node → ℕ → ℕ → ℕ → Node
+putIn d v positive negative =
+    elim (mem v (d .left .candidates)) [
+      | true ↦ putLeft d v positive negative
+      | false ↦ flip (putLeft (flip d) v positive negative)
+    ]
+
+-- by its rows in a graph
+abbrev pub withVertex : SignedGraph → Node → ℕ → Node
+withVertex g d v = putIn d v (getD (g .positive) v 0) (getD (g .negative) v 0)
+
+abbrev pub leaveOut : Node → ℕ → Node
+leaveOut d v = record { left = passedOver (d .left) v; right = passedOver (d .right) v }
+
+-- ---- what holds of a node
+
+-- p could join the side `near`, `far` being the other side
+pub record Fits (g : SignedGraph) (near far p : ℕ) : Type 0 where
+  pub usable : mem p (vertices g) ≡ true
+  pub same : (q : ℕ) → mem q near ≡ true → positiveEdge g q p ≡ true
+  pub cross : (q : ℕ) → mem q far ≡ true → negativeEdge g q p ≡ true
+
+-- the candidates and the excluded of a side are together the vertices that could join it, and none is both
+pub record Half (g : SignedGraph) (near : Side) (far : ℕ) : Type 0 where
+  pub candidate : (p : ℕ) → mem p (near .candidates) ≡ true → Fits g (near .chosen) far p
+  pub out : (p : ℕ) → mem p (near .excluded) ≡ true → Fits g (near .chosen) far p
+  pub every : (p : ℕ) → Fits g (near .chosen) far p → (mem p (near .candidates) || mem p (near .excluded)) ≡ true
+  pub apart : (p : ℕ) → mem p (near .candidates) ≡ true → mem p (near .excluded) ≡ false
+
+-- l and r are the sides of a balanced set
+pub record Parts (g : SignedGraph) (l r : ℕ) : Type 0 where
+  pub usable-l : Subset l (vertices g)
+  pub usable-r : Subset r (vertices g)
+  pub inside-l : (p q : ℕ) → p ≢ q → mem p l ≡ true → mem q l ≡ true → positiveEdge g p q ≡ true
+  pub inside-r : (p q : ℕ) → p ≢ q → mem p r ≡ true → mem q r ≡ true → positiveEdge g p q ≡ true
+  pub across : (p q : ℕ) → mem p l ≡ true → mem q r ≡ true → negativeEdge g p q ≡ true
+
+-- nothing is chosen, and both sides are open to the same vertices; or the left has the lowest of all vertices of the node
+pub data Stage (d : Node) : Type 0 where
+  untouched : d .left .chosen ≡ 0 → d .right .chosen ≡ 0 → d .left .candidates ≡ d .right .candidates → Stage d
+  led : (a : ℕ) → mem a (d .left .chosen) ≡ true → ((p : ℕ) → mem p (whole d) ≡ true → a ≤ p) → Stage d
+
+pub record Valid (g : SignedGraph) (d : Node) : Type 0 where
+  pub parts : Parts g (d .left .chosen) (d .right .chosen)
+  pub left : Half g (d .left) (d .right .chosen)
+  pub right : Half g (d .right) (d .left .chosen)
+  pub stage : Stage d
+
+-- u fits on its side beside every candidate, `near` being those of its side and `far` those of the other, by the tables of partners
+pub record Free (positive negative : List ℕ) (near far u : ℕ) : Type 0 where
+  pub same : (w : ℕ) → mem w near ≡ true → w ≢ u → mem u (getD positive w 0) ≡ true
+  pub cross : (w : ℕ) → mem w far ≡ true → mem u (getD negative w 0) ≡ true
+
+-- a candidate that is free on its side
+pub data Universal (positive negative : List ℕ) (d : Node) (u : ℕ) : Type 0 where
+  on-left : mem u (d .left .candidates) ≡ true → Free positive negative (d .left .candidates) (d .right .candidates) u → Universal positive negative d u
+  on-right : mem u (d .right .candidates) ≡ true → Free positive negative (d .right .candidates) (d .left .candidates) u → Universal positive negative d u
+
+-- ---- the groups below a node
+
+-- s has what the side has, and beyond that only candidates of it
+pub record Between (side : Side) (s : ℕ) : Type 0 where
+  pub holds : Subset (side .chosen) s
+  pub only : Subset s (bitOr (side .chosen) (side .candidates))
+
+pub record Below (d : Node) (x : Item) : Type 0 where
+  pub left : Between (d .left) (x .left)
+  pub right : Between (d .right) (x .right)
+
+-- the node e stands for the same groups as d
+pub record Same (g : SignedGraph) (k : ℕ) (d e : Node) : Type 0 where
+  pub valid : Valid g e
+  pub to : (x : Item) → Listed g k x → Below d x → Below e x
+  pub from : (x : Item) → Listed g k x → Below e x → Below d x
+
+-- a is within b; the test of the groups below; those of a list
+abbrev pub within : ℕ → ℕ → Bool
+within a b = eqb (bitAnd a b) a
+
+abbrev pub isBetween : Side → ℕ → Bool
+isBetween side s = within (side .chosen) s && within s (bitOr (side .chosen) (side .candidates))
+
+unfoldable pub isBelow : Node → Item → Bool
+isBelow d x = isBetween (d .left) (x .left) && isBetween (d .right) (x .right)
+
+unfoldable pub itemsBelow : Node → List Item → List Item
+itemsBelow d l = select (isBelow d) l
+
+-- a side is too small, even with all its candidates
+unfoldable pub short : ℕ → Node → Bool
+short k d =
+    not (floor k (size (bitOr (d .left .chosen) (d .left .candidates))) (size (bitOr (d .right .chosen) (d .right .candidates))))
+
+-- the chosen set with its sides; where nothing is undecided, whether it is a group
+abbrev pub leafItem : Node → Item
+leafItem d = record { vertices = chosen d; left = d .left .chosen; right = d .right .chosen }
+
+unfoldable pub groupAt : ℕ → Node → Bool
+groupAt k d =
+    ltb 0 (chosen d) && eqb (bitOr (d .left .excluded) (d .right .excluded)) 0
+    && floor k (size (d .left .chosen)) (size (d .right .chosen))

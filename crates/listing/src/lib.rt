@@ -1,0 +1,585 @@
+// The groups of a graph by pages, in listing order, and a record looked up in a listing.
+use signed_graph::Check;
+use signed_graph::Refusal;
+use signed_graph::SignedGraph;
+ghost use mathlib.Core.Path.{_≡_};
+ghost use mathlib.Core.Bool.{true};
+ghost use mathlib.Core.List.{List, [], _∷_, _++_};
+ghost use Prim.Native.Nat.{ℕ, _≤_};
+ghost use lib.ListN.{length, drop};
+ghost use lib.Bits.{bitOr};
+ghost use Rattle.vertex_set.specs.Sets.{Subset};
+ghost use Rattle.clique.specs.Order as order;
+ghost use Rattle.listing.specs.Listing.{Item, listing};
+ghost use Rattle.listing.specs.Records.{bytesOf, sidesRecord, recordAt};
+ghost use Rattle.signed_graph.specs.Soundness.{sound};
+ghost use Rattle.signed_graph.specs.Calls.{numberOf, refusalNumber};
+ghost use Rattle.listing.specs.Pages.{dueAt};
+ghost use Rattle.listing.specs.Calls.{dueGroups, pageOf, pageBytes};
+ghost use Rattle.listing.specs.declared.Bookmark.the-variants as start;
+ghost use Rattle.listing.specs.Largest as best;
+ghost use Rattle.listing.specs.Largest.{largestOf, answerTo, largestGroup, largestNumber};
+ghost use Rattle.listing.specs.Filling.{Holds, Past};
+ghost use Rattle.listing.specs.Nodes as nodes;
+ghost use Rattle.listing.specs.Nodes.{narrowed, joined, passedOver, putIn, leaveOut, short, groupAt, rootOf};
+ghost use Rattle.listing.specs.Search.{Beside, FreeSides, Settles, Advances, leafItems, ListsLeaf, Lists, bestOf, Finds};
+
+// Where a page starts: at the first group, or after a set in listing order.
+pub enum Bookmark {
+    Start,
+    After(u64),
+}
+
+// Whether groups are due behind a page.
+pub enum End {
+    Finished,
+    More,
+}
+
+// How many records a page wrote, and where the next one starts.
+pub struct Page {
+    pub outcome: Check,
+    pub count: usize,
+    pub next: Bookmark,
+    pub end: End,
+}
+
+// Whether the largest group was found.
+pub enum Finding {
+    Found,
+    NoGroup,
+    Refused(Refusal),
+}
+
+// The sides of the largest group; both are empty where there is none.
+pub struct LargestGroup {
+    pub outcome: Finding,
+    pub left: u64,
+    pub right: u64,
+}
+
+// A side of the groups that a node of the search stands for: the vertices that all of them hold, those that are undecided and
+// may still join it, and those left out that would still fit.
+struct Side {
+    chosen: u64,
+    candidates: u64,
+    excluded: u64,
+}
+
+struct Node {
+    left: Side,
+    right: Side,
+}
+
+// The largest group met so far; of size 0 where none was.
+struct Best {
+    size: u64,
+    left: u64,
+    right: u64,
+}
+
+// Vertices that fit on a side, and vertices that fit on the other.
+struct Fitting {
+    near: u64,
+    far: u64,
+}
+
+// The node that stands for the same groups, unless there are none.
+struct Progress {
+    barren: bool,
+    node: Node,
+}
+
+// Record i of a listing: its sixteen bytes, or none where it is not wholly there.
+pub fn record_at(listing: &[u8], i: u64) -> &[u8]
+    ensures { λ r. ⌜ now r ≡ recordAt (now (listing .entry)) i ⌝ }
+{
+    let whole = listing.len() / 16;
+    if i < whole as u64 {
+        let start = 16 * i as usize;
+        let end = start + 16;
+        return &listing[start..end];
+    }
+    let none = 0;
+    &listing[none..none]
+}
+
+// Writes the 8 bytes of x, low byte first.
+fn write_word(x: u64, out: &mut [u8])
+    requires { ⌜ 8 ≤ length (now out) ⌝ }
+    ensures { λ _. ⌜ now (out .exit) ≡ bytesOf 8 x ++ drop 8 (now (out .entry)) ⌝ }
+{
+    let mut left = x;
+    let mut at: usize = 0;
+    while at < 8 {
+        out[at] = (left % 256) as u8;
+        left = left >> 8;
+        at += 1;
+    }
+}
+
+// Writes the record of a group with these sides.
+fn write_record(left: u64, right: u64, out: &mut [u8])
+    requires { ⌜ 16 ≤ length (now out) ⌝ }
+    ensures { λ _. ⌜ now (out .exit) ≡ sidesRecord left right ++ drop 16 (now (out .entry)) ⌝ }
+{
+    write_word(left, out);
+    let at = 8;
+    write_word(right, &mut out[at..]);
+}
+
+// A page with one due group more: its record goes behind those already written; where there is no place for it, there is more.
+fn put_group(page: Page, left: u64, right: u64, out: &mut [u8]) -> Page
+    ensures { λ r. ⌜ ((m : Bookmark) (buffer : List ℕ) (met : List Item) → Holds m buffer met page (now (out .entry))
+        → Holds m buffer (met ++ record { vertices = bitOr left right; left = left; right = right } ∷ []) r (now (out .exit))) ⌝ }
+{
+    let count = page.count;
+    let next = page.next;
+    let room = out.len() / 16;
+    if count < room {
+        let at = 16 * count;
+        write_record(left, right, &mut out[at..]);
+        let grown = count + 1;
+        Page {
+            outcome: Check::Accepted,
+            count: grown,
+            next: Bookmark::After(left | right),
+            end: End::Finished,
+        }
+    } else {
+        Page {
+            outcome: Check::Accepted,
+            count,
+            next,
+            end: End::More,
+        }
+    }
+}
+
+// Whether a comes before b in listing order.
+fn comes_before(a: u64, b: u64) -> bool
+    ensures { λ r. ⌜ r ≡ order.precedes a b ⌝ }
+{
+    vertex_set::contains(a, vertex_set::lowest(a ^ b))
+}
+
+// Whether the set s is due at a bookmark.
+fn is_due(from: Bookmark, s: u64) -> bool
+    ensures { λ r. ⌜ r ≡ dueAt from s ⌝ }
+{
+    match from {
+        Bookmark::Start => true,
+        Bookmark::After(t) => comes_before(t, s),
+    }
+}
+
+// True only where no set is due that has, below v, exactly the vertices of `chosen`.
+fn is_past(from: Bookmark, chosen: u64, v: usize) -> bool
+    ensures { λ r. ⌜ (r ≡ true → Past from chosen v) ⌝ }
+{
+    match from {
+        Bookmark::Start => false,
+        Bookmark::After(t) => {
+            let differing = vertex_set::below(v as u64) & (chosen ^ t);
+            vertex_set::contains(chosen, vertex_set::lowest(differing))
+        }
+    }
+}
+
+// The vertices chosen so far.
+fn chosen(at: Node) -> u64
+    ensures { λ r. ⌜ r ≡ nodes.chosen at ⌝ }
+{
+    at.left.chosen | at.right.chosen
+}
+
+// The vertices still undecided.
+fn undecided(at: Node) -> u64
+    ensures { λ r. ⌜ r ≡ nodes.undecided at ⌝ }
+{
+    at.left.candidates | at.right.candidates
+}
+
+// A side once v is chosen, `row` being the partners of v that may be on it.
+fn narrow(side: Side, v: usize, row: u64) -> Side
+    ensures { λ r. ⌜ r ≡ narrowed side v row ⌝ }
+{
+    let others = !vertex_set::single(v);
+    Side {
+        chosen: side.chosen,
+        candidates: side.candidates & row & others,
+        excluded: side.excluded & row,
+    }
+}
+
+// A side with v on it.
+fn join(side: Side, v: usize) -> Side
+    ensures { λ r. ⌜ r ≡ joined side v ⌝ }
+{
+    Side {
+        chosen: side.chosen | vertex_set::single(v),
+        candidates: side.candidates,
+        excluded: side.excluded,
+    }
+}
+
+// A side once v is left out.
+fn pass_over(side: Side, v: usize) -> Side
+    ensures { λ r. ⌜ r ≡ passedOver side v ⌝ }
+{
+    let alone = vertex_set::single(v);
+    Side {
+        chosen: side.chosen,
+        candidates: side.candidates & !alone,
+        excluded: side.excluded | (side.candidates & alone),
+    }
+}
+
+// The node with v, whose partners these are, on the side that it may join.
+fn put_in(at: Node, v: usize, positive: u64, negative: u64) -> Node
+    ensures { λ r. ⌜ r ≡ putIn at v positive negative ⌝ }
+{
+    let left = at.left;
+    let right = at.right;
+    if vertex_set::contains(left.candidates, v) {
+        Node {
+            left: join(narrow(left, v, positive), v),
+            right: narrow(right, v, negative),
+        }
+    } else {
+        Node {
+            left: narrow(left, v, negative),
+            right: join(narrow(right, v, positive), v),
+        }
+    }
+}
+
+// The node with v left out.
+fn leave_out(at: Node, v: usize) -> Node
+    ensures { λ r. ⌜ r ≡ leaveOut at v ⌝ }
+{
+    Node {
+        left: pass_over(at.left, v),
+        right: pass_over(at.right, v),
+    }
+}
+
+// Of the vertices `near` and `far`, those that fit beside every candidate of a side: those on that side are positive to all others,
+// those on the other side negative to all.
+fn beside_all<'a>(
+    candidates: u64,
+    near: u64,
+    far: u64,
+    positive: &'a [u64; 64],
+    negative: &'a [u64; 64],
+) -> Fitting
+    ensures { λ r. ⌜ Beside (now (positive .entry)) (now (negative .entry)) candidates near far r ⌝ }
+{
+    let mut same = near;
+    let mut cross = far;
+    let mut left = candidates;
+    while left != 0 {
+        let w = vertex_set::lowest(left);
+        same = same & (positive[w] | vertex_set::single(w));
+        cross = cross & negative[w];
+        if same | cross == 0 {
+            return Fitting { near: 0, far: 0 };
+        }
+        left = left & (left - 1);
+    }
+    Fitting {
+        near: same,
+        far: cross,
+    }
+}
+
+// The vertices that fit on the left beside every candidate, and those that fit so on the right.
+fn free_sides<'a>(at: Node, positive: &'a [u64; 64], negative: &'a [u64; 64]) -> Fitting
+    ensures { λ r. ⌜ FreeSides (now (positive .entry)) (now (negative .entry)) at r ⌝ }
+{
+    let left = at.left;
+    let right = at.right;
+    let first = beside_all(
+        left.candidates,
+        left.candidates | left.excluded,
+        right.candidates | right.excluded,
+        positive,
+        negative,
+    );
+    let second = beside_all(right.candidates, first.far, first.near, positive, negative);
+    Fitting {
+        near: second.far,
+        far: second.near,
+    }
+}
+
+// The node with the universal candidates `free` in.
+fn settle<'a>(at: Node, free: u64, positive: &'a [u64; 64], negative: &'a [u64; 64]) -> Node
+    ensures { λ r. ⌜ Subset (nodes.undecided r) (nodes.undecided at) ⌝ }
+    ensures { λ r. ⌜ Settles (now (positive .entry)) (now (negative .entry)) at free r ⌝ }
+{
+    let mut node = at;
+    let mut left = free;
+    while left != 0 {
+        let u = vertex_set::lowest(left);
+        node = put_in(node, u, positive[u], negative[u]);
+        left = left & (left - 1);
+    }
+    node
+}
+
+// Whether a side is too small for threshold k, even with all its candidates.
+fn is_short(at: Node, k: u64) -> bool
+    ensures { λ r. ⌜ r ≡ short k at ⌝ }
+{
+    let left = at.left;
+    let right = at.right;
+    let left_size = vertex_set::size(left.chosen | left.candidates);
+    let right_size = vertex_set::size(right.chosen | right.candidates);
+    !clique::large_enough(k, left_size, right_size)
+}
+
+// The node with all universal candidates in, unless it is seen that no group for k is below: where a side is too small, or where
+// a vertex that was left out is free, so that it would join every set below.
+fn advance<'a>(at: Node, k: u64, positive: &'a [u64; 64], negative: &'a [u64; 64]) -> Progress
+    ensures { λ r. ⌜ Subset (nodes.undecided (r .node)) (nodes.undecided at) ⌝ }
+    ensures { λ r. ⌜ Advances (now (positive .entry)) (now (negative .entry)) k at r ⌝ }
+{
+    if is_short(at, k) {
+        return Progress {
+            barren: true,
+            node: at,
+        };
+    }
+    let free = free_sides(at, positive, negative);
+    let left = at.left;
+    let right = at.right;
+    let dominating = (free.near & left.excluded) | (free.far & right.excluded);
+    if dominating != 0 {
+        return Progress {
+            barren: true,
+            node: at,
+        };
+    }
+    let universal = (free.near & left.candidates) | (free.far & right.candidates);
+    Progress {
+        barren: false,
+        node: settle(at, universal, positive, negative),
+    }
+}
+
+// Whether the chosen set of a node with nothing undecided is a group for k.
+fn is_group(at: Node, k: u64) -> bool
+    ensures { λ r. ⌜ r ≡ groupAt k at ⌝ }
+{
+    let left = at.left;
+    let right = at.right;
+    if left.chosen | right.chosen == 0 {
+        return false;
+    }
+    if left.excluded | right.excluded != 0 {
+        return false;
+    }
+    clique::large_enough(
+        k,
+        vertex_set::size(left.chosen),
+        vertex_set::size(right.chosen),
+    )
+}
+
+// The page with the chosen set of a node with nothing undecided, where that is a group and due.
+fn list_leaf(at: Node, k: u64, from: Bookmark, page: Page, out: &mut [u8]) -> Page
+    ensures { λ r. ⌜ ListsLeaf k from at page (now (out .entry)) r (now (out .exit)) ⌝ }
+{
+    let left = at.left;
+    let right = at.right;
+    if !is_group(at, k) {
+        return page;
+    }
+    if !is_due(from, left.chosen | right.chosen) {
+        return page;
+    }
+    put_group(page, left.chosen, right.chosen, out)
+}
+
+// The page with the groups below a node that are due, in listing order, behind those that it has.
+fn list_below<'a>(
+    at: Node,
+    k: u64,
+    from: Bookmark,
+    positive: &'a [u64; 64],
+    negative: &'a [u64; 64],
+    page: Page,
+    out: &mut [u8],
+) -> Page
+    ensures { λ r. ⌜ Lists (now (positive .entry)) (now (negative .entry)) k from at page (now (out .entry)) r (now (out .exit)) ⌝ }
+{
+    if is_past(from, chosen(at), vertex_set::lowest(undecided(at))) {
+        return page;
+    }
+    let step = advance(at, k, positive, negative);
+    if step.barren {
+        return page;
+    }
+    let node = step.node;
+    let open = undecided(node);
+    if open == 0 {
+        return list_leaf(node, k, from, page, out);
+    }
+    let v = vertex_set::lowest(open);
+    let first = list_below(
+        put_in(node, v, positive[v], negative[v]),
+        k,
+        from,
+        positive,
+        negative,
+        page,
+        out,
+    );
+    let end = first.end;
+    match end {
+        End::More => first,
+        End::Finished => list_below(leave_out(node, v), k, from, positive, negative, first, out),
+    }
+}
+
+// The node with these vertices undecided and nothing chosen or left out.
+fn root(all: u64) -> Node
+    ensures { λ r. ⌜ r ≡ rootOf all ⌝ }
+{
+    let side = Side {
+        chosen: 0,
+        candidates: all,
+        excluded: 0,
+    };
+    Node {
+        left: side,
+        right: side,
+    }
+}
+
+// The page of a sound graph.
+fn list_sound(g: SignedGraph, k: u64, from: Bookmark, out: &mut [u8]) -> Page
+    requires { ⌜ sound g ≡ true ⌝ }
+    ensures { λ r. ⌜ Holds from (now (out .entry)) (dueGroups g k from) r (now (out .exit)) ⌝ }
+{
+    let page = Page {
+        outcome: Check::Accepted,
+        count: 0,
+        next: from,
+        end: End::Finished,
+    };
+    let all = vertex_set::below(g.n);
+    list_below(root(all), k, from, &g.positive, &g.negative, page, out)
+}
+
+// The records of the first groups for k that are due at a bookmark, as many as fit, at the front of `out`.
+pub fn list_page(g: SignedGraph, k: u64, from: Bookmark, out: &mut [u8]) -> Page
+    ensures { λ r. ⌜ r ≡ pageOf g k from (length (now (out .entry))) ⌝ }
+    ensures { λ r. ⌜ now (out .exit) ≡ pageBytes g k from (now (out .entry)) ⌝ }
+    ensures { λ r. ⌜ numberOf (r .outcome) ≡ refusalNumber g k ⌝ }
+{
+    match signed_graph::check_call(g, k) {
+        Check::Refused(refusal) => Page {
+            outcome: Check::Refused(refusal),
+            count: 0,
+            next: from,
+            end: End::More,
+        },
+        Check::Accepted => list_sound(g, k, from, out),
+    }
+}
+
+// The larger of the largest group so far and the chosen set of a node with nothing undecided, where that is a group.
+fn largest_leaf(at: Node, k: u64, best: Best) -> Best
+    ensures { λ r. ⌜ r ≡ bestOf best (leafItems k start.Start at) ⌝ }
+{
+    let left = at.left;
+    let right = at.right;
+    if !is_group(at, k) {
+        return best;
+    }
+    let size = vertex_set::size(left.chosen | right.chosen);
+    if size <= best.size {
+        return best;
+    }
+    Best {
+        size,
+        left: left.chosen,
+        right: right.chosen,
+    }
+}
+
+// The largest of the largest group so far and of the groups below a node; of equals, the first.
+fn largest_below<'a>(
+    at: Node,
+    k: u64,
+    positive: &'a [u64; 64],
+    negative: &'a [u64; 64],
+    best: Best,
+) -> Best
+    ensures { λ r. ⌜ Finds (now (positive .entry)) (now (negative .entry)) k at best r ⌝ }
+{
+    if vertex_set::size(chosen(at) | undecided(at)) <= best.size {
+        return best;
+    }
+    let step = advance(at, k, positive, negative);
+    if step.barren {
+        return best;
+    }
+    let node = step.node;
+    let open = undecided(node);
+    if open == 0 {
+        return largest_leaf(node, k, best);
+    }
+    let v = vertex_set::lowest(open);
+    let first = largest_below(
+        put_in(node, v, positive[v], negative[v]),
+        k,
+        positive,
+        negative,
+        best,
+    );
+    largest_below(leave_out(node, v), k, positive, negative, first)
+}
+
+// The largest group for k of a sound graph.
+fn largest_sound(g: SignedGraph, k: u64) -> LargestGroup
+    requires { ⌜ sound g ≡ true ⌝ }
+    ensures { λ r. ⌜ r ≡ answerTo (largestOf (listing g k)) ⌝ }
+{
+    let none = Best {
+        size: 0,
+        left: 0,
+        right: 0,
+    };
+    let all = vertex_set::below(g.n);
+    let best = largest_below(root(all), k, &g.positive, &g.negative, none);
+    if best.size == 0 {
+        return LargestGroup {
+            outcome: Finding::NoGroup,
+            left: 0,
+            right: 0,
+        };
+    }
+    LargestGroup {
+        outcome: Finding::Found,
+        left: best.left,
+        right: best.right,
+    }
+}
+
+// The group for k with the most vertices; of equals, the first in listing order.
+pub fn largest(g: SignedGraph, k: u64) -> LargestGroup
+    ensures { λ r. ⌜ r ≡ largestGroup g k ⌝ }
+    ensures { λ r. ⌜ best.numberOf (r .outcome) ≡ largestNumber g k ⌝ }
+{
+    match signed_graph::check_call(g, k) {
+        Check::Refused(refusal) => LargestGroup {
+            outcome: Finding::Refused(refusal),
+            left: 0,
+            right: 0,
+        },
+        Check::Accepted => largest_sound(g, k),
+    }
+}
