@@ -1,31 +1,28 @@
 -- The groups below a node: those below it once a vertex goes in and those below it once it is left out, in this order. Assumes nothing.
 use Prim.Native.Nat.{ℕ, _^_, _≤_, _<_}
 use native.Mathlib.Omega.{arith}
-use native.Mathlib.Decide.{ℕ-discrete, decLt}
+use native.Mathlib.Decide.{ℕ-discrete}
 use mathlib.Core.Path.{_≡_, refl, sym, ap, ap₂, _∙_}
 use mathlib.Core.Logic.{_≢_, _⊎_, inl, inr}
-use mathlib.Core.Bool.{Bool, true, false, _&&_, _||_}
-use mathlib.Core.List.{List, [], _∷_, _++_, List·Memᴰ, List·Memᴰ·not-nil, Memᴰ·append-left, Memᴰ·append-right, List·Memᴰ·append-cases}
-use lib.Dec.{eqb}
+use mathlib.Core.Bool.{Bool, true, false, _||_}
+use mathlib.Core.List.{List, [], _++_, List·Memᴰ, List·Memᴰ·not-nil, Memᴰ·append-left, Memᴰ·append-right, List·Memᴰ·append-cases}
 use lib.Bits.{bitAnd, bitOr}
 use borrow.Author.Tests.{eqb-true, eq-eqb}
 use Rattle.vertex_set.specs.Lists.{All, Sorted}
-use Rattle.vertex_set.specs.Sets.{mem, Subset, single, lowest}
+use Rattle.vertex_set.specs.Sets.{mem, single, lowest}
 use Rattle.vertex_set.proofs.Booleans.{clash, refute, cases, iff, and-intro, and-left, and-right, or-left, or-right, or-cases}
 use Rattle.vertex_set.proofs.Lists.{mem-all, selected, select-from, select-keeps, sorted-append, sorted-select, sorted-unique}
 use Rattle.vertex_set.proofs.Membership.{mem-none, mem-lt, mem-pos, subset-and, and-subset, lt-of-members, union-left, union-right, union-cases}
 use Rattle.vertex_set.proofs.LowestVertex.{lowest-is}
 use Rattle.signed_graph.specs.declared.SignedGraph.{SignedGraph}
-use Rattle.signed_graph.specs.Graphs.{positiveEdge, negativeEdge, vertices}
+use Rattle.signed_graph.specs.Graphs.{negativeEdge, vertices}
 use Rattle.signed_graph.proofs.Soundness.{Sound}
-use Rattle.clique.specs.Balance.{Split, Sides}
-use Rattle.clique.specs.Order.{precedes}
-use Rattle.clique.proofs.Order.{Before, from-before, asymmetric}
-use Rattle.clique.proofs.Balance.{usable-64}
+use Rattle.clique.specs.Balance.{Split}
+use Rattle.clique.proofs.Order.{from-before, asymmetric}
 use Rattle.listing.specs.declared.Side.{Side}
 use Rattle.listing.specs.declared.Node.{Node}
 use Rattle.listing.specs.Listing.{Item, Listed, comesBefore}
-use Rattle.listing.specs.Nodes.{chosen, undecided, whole, others, narrowed, joined, passedOver, flip, putLeft, putIn, withVertex, leaveOut, Stage, untouched, led, Valid, Between, Below, within, isBetween, isBelow, itemsBelow}
+use Rattle.listing.specs.Nodes.{chosen, undecided, others, narrowed, joined, passedOver, flip, putLeft, putIn, withVertex, leaveOut, Stage, untouched, led, Valid, Between, Below, within, isBetween, isBelow, itemsBelow}
 use Rattle.listing.proofs.Nodes.{joined-in, joined-cases, others-keep, others-lack, both-in, in-first, positives, negatives, candidates-64, fits-new, fits-off}
 
 -- ---- the test

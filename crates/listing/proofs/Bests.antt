@@ -12,7 +12,7 @@ use lib.Bits.{bitOr}
 use borrow.Author.Tests.{ltb-true, ltb-false, lt-ltb, le-ltb}
 use Rattle.vertex_set.specs.Lists.{All}
 use Rattle.vertex_set.specs.Sets.{mem, Subset, size, lowest}
-use Rattle.vertex_set.proofs.Booleans.{cases, or-cases}
+use Rattle.vertex_set.proofs.Booleans.{or-cases}
 use Rattle.vertex_set.proofs.Lists.{mem-all}
 use Rattle.vertex_set.proofs.Membership.{union-left, union-right, union-cases}
 use Rattle.vertex_set.proofs.Sizes.{size-subset, size-none}
@@ -24,13 +24,12 @@ use Rattle.signed_graph.proofs.Soundness.{Sound, to-sound}
 use Rattle.clique.proofs.Balance.{usable-64}
 use Rattle.listing.specs.declared.Bookmark.the-variants.{Start}
 use Rattle.listing.specs.declared.Finding.the-variants.{Found, NoGroup}
-use Rattle.listing.specs.declared.LargestGroup.{LargestGroup}
 use Rattle.listing.specs.declared.Node.{Node}
 use Rattle.listing.specs.declared.Best.{Best}
 use Rattle.listing.specs.declared.Progress.{Progress}
 use Rattle.listing.specs.Listing.{Item, Listed, listing}
 use Rattle.listing.specs.Pages.{due}
-use Rattle.listing.specs.Calls.{setOf, dueGroups}
+use Rattle.listing.specs.Calls.{dueGroups}
 use Rattle.listing.specs.Largest.{sizeOf, larger, largestOf, answerTo, largestBy, largestGroup, numberOf, largestNumberBy, largestNumber}
 use Rattle.listing.specs.Nodes.{chosen, undecided, whole, putIn, withVertex, leaveOut, Valid, Below, Same, itemsBelow, groupAt, leafItem, rootOf}
 use Rattle.listing.specs.Search.{graphOf, Advances, leafItems, bestItem, better, bestOf, Finds}
@@ -88,15 +87,21 @@ best-largest b (x ∷ l) = best-largest (better b x) l ∙ step (largestOf l)
 -- ---- a node
 
 module _ (positive negative : List ℕ) (k : ℕ) (d : Node) (b : Best) where
+  abbrev g : ℕ → SignedGraph
+  g n = graphOf n positive negative
+
+  gs : (n : ℕ) → sound (graphOf n positive negative) ≡ true → Sound (graphOf n positive negative)
+  gs n so = to-sound (graphOf n positive negative) so
+
   -- no set below has more vertices than the largest so far
   pub finds-none : (c u : ℕ) → c ≡ chosen d → u ≡ undecided d → size (bitOr c u) ≤ b .size → Finds positive negative k d b b
   finds-none c u is-c is-u h n so va =
-      sym (best-stays b (itemsBelow d (dueGroups (graphOf n positive negative) k Start))
-      (mem-all (λ x. sizeOf x ≤ b .size) (itemsBelow d (dueGroups (graphOf n positive negative) k Start)) (λ x i.
-      let r : List·Memᴰ x (dueGroups (graphOf n positive negative) k Start) × Below d x = of-below d (dueGroups (graphOf n positive negative) k Start) x i in
-      few x (due-listed (graphOf n positive negative) (to-sound (graphOf n positive negative) so) k Start x (r .0)) (r .1))))
+      sym (best-stays b (itemsBelow d (dueGroups (g n) k Start))
+      (mem-all (λ x. sizeOf x ≤ b .size) (itemsBelow d (dueGroups (g n) k Start)) (λ x i.
+      let r : List·Memᴰ x (dueGroups (g n) k Start) × Below d x = of-below d (dueGroups (g n) k Start) x i in
+      few x (due-listed (g n) (gs n so) k Start x (r .0)) (r .1))))
     where
-      all-in : (n : ℕ) (x : Item) → Listed (graphOf n positive negative) k x → Below d x → Subset (x .vertices) (whole d)
+      all-in : (n : ℕ) (x : Item) → Listed (g n) k x → Below d x → Subset (x .vertices) (whole d)
       all-in n x lx bl p m =
           or-cases (mem p (whole d) ≡ true) (mem p (x .left)) (mem p (x .right)) (sym (lx .sides .split .either p) ∙ m)
           (λ y. union-cases (mem p (whole d) ≡ true) p (d .left .chosen) (d .left .candidates) (bl .left .only p y) (of-left d p)
@@ -104,7 +109,7 @@ module _ (positive negative : List ℕ) (k : ℕ) (d : Node) (b : Best) where
           (λ y. union-cases (mem p (whole d) ≡ true) p (d .right .chosen) (d .right .candidates) (bl .right .only p y) (of-right d p)
           (λ z. of-undecided d p (union-right p (d .left .candidates) (d .right .candidates) z)))
 
-      few : {n : ℕ} (x : Item) → Listed (graphOf n positive negative) k x → Below d x → sizeOf x ≤ b .size
+      few : {n : ℕ} (x : Item) → Listed (g n) k x → Below d x → sizeOf x ≤ b .size
       few {n} x lx bl =
           let e : size (bitOr c u) ≡ size (whole d) = ap₂ (λ (y z : ℕ). size (bitOr y z)) is-c is-u in
           omega (arith, size-subset (x .vertices) (whole d) (all-in n x lx bl))
@@ -113,39 +118,39 @@ module _ (positive negative : List ℕ) (k : ℕ) (d : Node) (b : Best) where
     pub finds-barren : a .barren ≡ true → Finds positive negative k d b b
     unfolding bestOf
     finds-barren e n so va =
-        sym (ap (bestOf b) (none-due (graphOf n positive negative) (to-sound (graphOf n positive negative) so) k Start d (adv n so va .0 e)))
+        sym (ap (bestOf b) (none-due (g n) (gs n so) k Start d (adv n so va .0 e)))
 
     module _ (e : a .barren ≡ false) where
       pub finds-leaf : (after : Best) (u : ℕ) → u ≡ undecided (a .node) → u ≡ 0 → after ≡ bestOf b (leafItems k Start (a .node))
           → Finds positive negative k d b after
       finds-leaf after u is-u done is n so va =
-          let s : Same (graphOf n positive negative) k d (a .node) = adv n so va .1 e in
+          let s : Same (g n) k d (a .node) = adv n so va .1 e in
           is ∙ ap (bestOf b) (sym
-          (same-due (graphOf n positive negative) (to-sound (graphOf n positive negative) so) k Start d (a .node) s
-          ∙ leaf-due (graphOf n positive negative) (to-sound (graphOf n positive negative) so) k Start (a .node) (s .valid) (sym is-u ∙ done)))
+          (same-due (g n) (gs n so) k Start d (a .node) s
+          ∙ leaf-due (g n) (gs n so) k Start (a .node) (s .valid) (sym is-u ∙ done)))
 
       pub finds-both : (u v : ℕ) → u ≡ undecided (a .node) → (u ≡ 0 → ⊥) → v ≡ lowest u → (in-child : Node)
           → in-child ≡ putIn (a .node) v (getD positive v 0) (getD negative v 0) → (first : Best) → Finds positive negative k in-child b first
           → (out-child : Node) → out-child ≡ leaveOut (a .node) v → (after : Best) → Finds positive negative k out-child first after
           → Finds positive negative k d b after
       finds-both u v is-u open-u is-v in-child in-is first one out-child out-is after two n so va =
-          let s : Same (graphOf n positive negative) k d (a .node) = adv n so va .1 e in
+          let s : Same (g n) k d (a .node) = adv n so va .1 e in
           let is : v ≡ lowest (undecided (a .node)) = is-v ∙ ap lowest is-u in
           let pos : 0 < undecided (a .node) = omega (arith, open-u) in
-          let A : List Item = itemsBelow (withVertex (graphOf n positive negative) (a .node) v) (dueGroups (graphOf n positive negative) k Start) in
-          let B : List Item = itemsBelow (leaveOut (a .node) v) (dueGroups (graphOf n positive negative) k Start) in
+          let A : List Item = itemsBelow (withVertex (g n) (a .node) v) (dueGroups (g n) k Start) in
+          let B : List Item = itemsBelow (leaveOut (a .node) v) (dueGroups (g n) k Start) in
           let first-is : first ≡ bestOf b A =
-          one n so (subst (Valid (graphOf n positive negative)) (sym in-is)
-          (step-in (graphOf n positive negative) (to-sound (graphOf n positive negative) so) k Start (a .node) (s .valid) v is pos))
-          ∙ ap (λ (x : Node). bestOf b (itemsBelow x (dueGroups (graphOf n positive negative) k Start))) in-is in
+          one n so (subst (Valid (g n)) (sym in-is)
+          (step-in (g n) (gs n so) k Start (a .node) (s .valid) v is pos))
+          ∙ ap (λ (x : Node). bestOf b (itemsBelow x (dueGroups (g n) k Start))) in-is in
           let after-is : after ≡ bestOf first B =
-          two n so (subst (Valid (graphOf n positive negative)) (sym out-is)
-          (step-out (graphOf n positive negative) (to-sound (graphOf n positive negative) so) k Start (a .node) (s .valid) v is pos))
-          ∙ ap (λ (x : Node). bestOf first (itemsBelow x (dueGroups (graphOf n positive negative) k Start))) out-is in
+          two n so (subst (Valid (g n)) (sym out-is)
+          (step-out (g n) (gs n so) k Start (a .node) (s .valid) v is pos))
+          ∙ ap (λ (x : Node). bestOf first (itemsBelow x (dueGroups (g n) k Start))) out-is in
           after-is ∙ ap (λ (x : Best). bestOf x B) first-is ∙ sym (best-append b A B)
           ∙ ap (bestOf b) (sym
-          (same-due (graphOf n positive negative) (to-sound (graphOf n positive negative) so) k Start d (a .node) s
-          ∙ step-due (graphOf n positive negative) (to-sound (graphOf n positive negative) so) k Start (a .node) (s .valid) v is pos))
+          (same-due (g n) (gs n so) k Start d (a .node) s
+          ∙ step-due (g n) (gs n so) k Start (a .node) (s .valid) v is pos))
 
 -- ---- the leaf
 

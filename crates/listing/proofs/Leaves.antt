@@ -5,7 +5,7 @@ use native.Mathlib.Nat.{lt-of-lt-of-le}
 use native.Mathlib.Decide.{ℕ-discrete}
 use mathlib.Core.Path.{_≡_, refl, sym, ap, ap₂, _∙_, subst}
 use mathlib.Core.Logic.{_⊎_, inl, inr}
-use mathlib.Core.Bool.{Bool, true, false, _&&_, _||_}
+use mathlib.Core.Bool.{Bool, true, false, _&&_}
 use mathlib.Core.List.{List, [], _∷_, List·Memᴰ, List·Memᴰ·head, List·Memᴰ·not-nil, List·Memᴰ·eq-of-singleton}
 use lib.Dec.{ltb, eqb}
 use lib.Bits.{bitOr}
@@ -13,22 +13,21 @@ use borrow.Author.Tests.{ltb-true, lt-ltb, le-ltb, eqb-true, eq-eqb, ne-eqb}
 use Rattle.vertex_set.specs.Lists.{Sorted}
 use Rattle.vertex_set.specs.Sets.{mem, Subset, insert, size, lowest}
 use Rattle.vertex_set.proofs.Booleans.{clash, refute, iff, and-intro, and-left, and-right, fails-left, fails-right, or-left, or-right, or-cases}
-use Rattle.vertex_set.proofs.Membership.{mem-none, mem-pos, mem-or, set-ext, union-left, union-right, union-cases}
+use Rattle.vertex_set.proofs.Membership.{mem-none, mem-or, set-ext, union-left, union-right, union-cases}
 use Rattle.vertex_set.proofs.Collections.{insert-in}
 use Rattle.vertex_set.proofs.LowestVertex.{lowest-is, lowest-in}
 use Rattle.signed_graph.specs.declared.SignedGraph.{SignedGraph}
 use Rattle.signed_graph.specs.Graphs.{negativeEdge, vertices}
 use Rattle.signed_graph.proofs.Soundness.{Sound}
 use Rattle.clique.specs.Balance.{Split, Balanced, Sides}
-use Rattle.clique.specs.Groups.{floor, Group}
+use Rattle.clique.specs.Groups.{floor}
 use Rattle.clique.proofs.Balance.{usable-64, usable-lt, split-balanced, words-balanced}
 use Rattle.clique.proofs.Groups.{single-maximal}
 use Rattle.clique.proofs.Extension.{Joins, extends-joins}
 use Rattle.listing.specs.declared.Side.{Side}
 use Rattle.listing.specs.declared.Node.{Node}
 use Rattle.listing.specs.Listing.{Item, Listed, comesBefore}
-use Rattle.listing.specs.Nodes.{chosen, undecided, whole, Fits, Half, Stage, untouched, led, Valid, Between, Below, itemsBelow, groupAt, leafItem, rootOf}
-use Rattle.listing.proofs.Nodes.{of-left, of-right, fits-off}
+use Rattle.listing.specs.Nodes.{chosen, undecided, Half, Stage, untouched, led, Valid, Between, Below, itemsBelow, groupAt, leafItem, rootOf}
 use Rattle.listing.proofs.Listing.{listed-enough}
 use Rattle.listing.proofs.Below.{below-is, below-agrees}
 use Rattle.listing.proofs.Prunes.{dominated-left, dominated-right}

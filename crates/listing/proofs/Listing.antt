@@ -1,11 +1,11 @@
 -- The listing holds exactly the groups, with their sides, strictly in listing order. Assumes nothing.
 use Prim.Native.Nat.{ℕ, _^_, _<_}
-use mathlib.Core.Path.{_≡_, refl, sym, ap, ap₂, _∙_, subst}
+use mathlib.Core.Path.{_≡_, sym, ap₂, _∙_, subst}
 use mathlib.Core.Logic.{_↔_}
-use mathlib.Core.Bool.{Bool, true}
+use mathlib.Core.Bool.{true}
 use mathlib.Core.List.{List, [], _∷_, map, List·Memᴰ, Memᴰ·map, Memᴰ·of-map}
 use Rattle.vertex_set.specs.Lists.{All, Sorted}
-use Rattle.vertex_set.specs.Sets.{mem, size}
+use Rattle.vertex_set.specs.Sets.{size}
 use Rattle.signed_graph.specs.declared.SignedGraph.{SignedGraph}
 use Rattle.signed_graph.proofs.Soundness.{Sound}
 use Rattle.clique.specs.Balance.{Sides, left, right}

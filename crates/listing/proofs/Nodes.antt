@@ -1,8 +1,7 @@
 -- A node stays valid where a vertex goes in and where it is left out. Assumes nothing.
 use Prim.Native.Nat.{ℕ, _-_, _^_, _≤_, _<_}
-use native.Mathlib.Omega.{arith}
 use native.Mathlib.Decide.{ℕ-discrete}
-use mathlib.Core.Path.{_≡_, refl, sym, ap, ap₂, _∙_, subst}
+use mathlib.Core.Path.{_≡_, refl, sym, ap, ap₂, _∙_}
 use mathlib.Core.Logic.{_≢_}
 use mathlib.Core.Bool.{Bool, true, false, not, _&&_, _||_}
 use lib.Dec.{eqb}
@@ -10,7 +9,7 @@ use lib.ListN.{getD}
 use lib.Bits.{bitAnd, bitOr}
 use lib.Pow.{pow-lt}
 use borrow.Author.Tests.{eqb-true, eq-eqb, ne-eqb}
-use Rattle.vertex_set.specs.Sets.{mem, Subset, single}
+use Rattle.vertex_set.specs.Sets.{mem, single}
 use Rattle.vertex_set.proofs.Booleans.{clash, refute, and-intro, and-left, and-right, fails-right, or-left, or-right, or-cases}
 use Rattle.vertex_set.proofs.Membership.{mem-none, mem-and, mem-not, mem-minus, union-left, union-right, union-cases}
 use Rattle.vertex_set.proofs.Collections.{single-pow, mem-pow, insert-in, insert-cases}

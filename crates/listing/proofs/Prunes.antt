@@ -1,12 +1,9 @@
 -- Where no group is below a node, and which vertices all groups below it hold. Assumes nothing.
-use Prim.Native.Nat.{ℕ, _^_, _≤_, _<_}
-use native.Mathlib.Decide.{ℕ-discrete}
-use mathlib.Core.Path.{_≡_, refl, sym, ap, ap₂, _∙_}
-use mathlib.Core.Logic.{_≢_}
+use Prim.Native.Nat.{ℕ}
+use mathlib.Core.Path.{_≡_, sym, ap, _∙_}
 use mathlib.Core.Bool.{Bool, true, false, _||_}
-use lib.ListN.{getD}
-use lib.Bits.{bitAnd, bitOr}
-use Rattle.vertex_set.specs.Sets.{mem, Subset, insert, size}
+use lib.Bits.{bitOr}
+use Rattle.vertex_set.specs.Sets.{mem, insert, size}
 use Rattle.vertex_set.proofs.Booleans.{clash, refute, cases, or-right, or-cases}
 use Rattle.vertex_set.proofs.Membership.{mem-none, union-left, union-right, union-cases}
 use Rattle.vertex_set.proofs.Sizes.{size-subset}
@@ -21,8 +18,8 @@ use Rattle.clique.proofs.Extension.{joins-extend}
 use Rattle.listing.specs.declared.Side.{Side}
 use Rattle.listing.specs.declared.Node.{Node}
 use Rattle.listing.specs.Listing.{Item, Listed}
-use Rattle.listing.specs.Nodes.{chosen, undecided, others, putLeft, flip, putIn, withVertex, Fits, Stage, untouched, led, Valid, Free, Universal, on-left, on-right, Between, Below}
-use Rattle.listing.proofs.Nodes.{others-keep, both-in, in-first, positives, negatives, candidates-64, fits-new, fits-off}
+use Rattle.listing.specs.Nodes.{chosen, undecided, Fits, Stage, untouched, led, Valid, Free, Universal, on-left, on-right, Between, Below}
+use Rattle.listing.proofs.Nodes.{negatives, fits-new, fits-off}
 use Rattle.listing.proofs.Listing.{listed-enough}
 
 module _ (g : SignedGraph) (so : Sound g) (k : ℕ) where

@@ -23,7 +23,7 @@ use Rattle.listing.specs.declared.Page.{Page}
 use Rattle.listing.specs.declared.Node.{Node}
 use Rattle.listing.specs.declared.Progress.{Progress}
 use Rattle.listing.specs.Listing.{Item, Listed, comesBefore, listing}
-use Rattle.listing.specs.Pages.{dueAt, due}
+use Rattle.listing.specs.Pages.{dueAt}
 use Rattle.listing.specs.Calls.{setOf, dueGroups}
 use Rattle.listing.specs.Filling.{Holds, Past}
 use Rattle.listing.specs.Nodes.{chosen, undecided, putIn, withVertex, leaveOut, Valid, Below, Same, itemsBelow, groupAt, leafItem, rootOf}
@@ -141,24 +141,30 @@ module _ (k : ℕ) (from : Bookmark) (d : Node) (page : Page) (entry : List ℕ)
       (put from buffer met h)
 
 module _ (positive negative : List ℕ) (k : ℕ) (from : Bookmark) (d : Node) (page : Page) (entry : List ℕ) where
+  abbrev g : ℕ → SignedGraph
+  g n = graphOf n positive negative
+
+  gs : (n : ℕ) → sound (graphOf n positive negative) ≡ true → Sound (graphOf n positive negative)
+  gs n so = to-sound (graphOf n positive negative) so
+
   pub lists-past : (c u v : ℕ) → c ≡ chosen d → u ≡ undecided d → v ≡ lowest u → Past from c v → Lists positive negative k from d page entry page entry
   lists-past c u v is-c is-u is-v past n so va buffer met h =
-      nothing-new (past-due (graphOf n positive negative) (to-sound (graphOf n positive negative) so) k from d va
+      nothing-new (past-due (g n) (gs n so) k from d va
       (subst (λ (z : ℕ). Past from z (lowest (undecided d))) is-c (subst (Past from c) (is-v ∙ ap lowest is-u) past))) h
 
   module _ (a : Progress) (adv : Advances positive negative k d a) where
     pub lists-barren : a .barren ≡ true → Lists positive negative k from d page entry page entry
     lists-barren e n so va buffer met h =
-        nothing-new (none-due (graphOf n positive negative) (to-sound (graphOf n positive negative) so) k from d (adv n so va .0 e)) h
+        nothing-new (none-due (g n) (gs n so) k from d (adv n so va .0 e)) h
 
     module _ (e : a .barren ≡ false) where
       pub lists-leaf : (after : Page) (exit : List ℕ) (u : ℕ) → u ≡ undecided (a .node) → u ≡ 0 → ListsLeaf k from (a .node) page entry after exit
           → Lists positive negative k from d page entry after exit
       lists-leaf after exit u is-u done leaf n so va buffer met h =
-          let s : Same (graphOf n positive negative) k d (a .node) = adv n so va .1 e in
-          let i : itemsBelow d (dueGroups (graphOf n positive negative) k from) ≡ leafItems k from (a .node)
-          = same-due (graphOf n positive negative) (to-sound (graphOf n positive negative) so) k from d (a .node) s
-          ∙ leaf-due (graphOf n positive negative) (to-sound (graphOf n positive negative) so) k from (a .node) (s .valid) (sym is-u ∙ done) in
+          let s : Same (g n) k d (a .node) = adv n so va .1 e in
+          let i : itemsBelow d (dueGroups (g n) k from) ≡ leafItems k from (a .node)
+          = same-due (g n) (gs n so) k from d (a .node) s
+          ∙ leaf-due (g n) (gs n so) k from (a .node) (s .valid) (sym is-u ∙ done) in
           subst (λ (x : List Item). Holds from buffer (met ++ x) after exit) (sym i) (leaf buffer met h)
 
       module _ (u v : ℕ) (is-u : u ≡ undecided (a .node)) (some : u ≡ 0 → ⊥) (is-v : v ≡ lowest u) (in-child : Node)
@@ -171,42 +177,42 @@ module _ (positive negative : List ℕ) (k : ℕ) (from : Bookmark) (d : Node) (
         open-node = omega (arith, some)
 
         -- what the page holds after the branch with v
-        after-in : (n : ℕ) (so : sound (graphOf n positive negative) ≡ true) (s : Same (graphOf n positive negative) k d (a .node)) (buffer : List ℕ) (met : List Item)
+        after-in : (n : ℕ) (so : sound (g n) ≡ true) (s : Same (g n) k d (a .node)) (buffer : List ℕ) (met : List Item)
             → Holds from buffer met page entry
-            → Holds from buffer (met ++ itemsBelow (withVertex (graphOf n positive negative) (a .node) v) (dueGroups (graphOf n positive negative) k from)) first mid
+            → Holds from buffer (met ++ itemsBelow (withVertex (g n) (a .node) v) (dueGroups (g n) k from)) first mid
         after-in n so s buffer met h =
-            subst (λ (x : Node). Holds from buffer (met ++ itemsBelow x (dueGroups (graphOf n positive negative) k from)) first mid) in-is
-            (went n so (subst (Valid (graphOf n positive negative)) (sym in-is)
-            (step-in (graphOf n positive negative) (to-sound (graphOf n positive negative) so) k from (a .node) (s .valid) v is open-node)) buffer met h)
+            subst (λ (x : Node). Holds from buffer (met ++ itemsBelow x (dueGroups (g n) k from)) first mid) in-is
+            (went n so (subst (Valid (g n)) (sym in-is)
+            (step-in (g n) (gs n so) k from (a .node) (s .valid) v is open-node)) buffer met h)
 
         -- the groups below, by both branches
-        branches : (n : ℕ) (so : sound (graphOf n positive negative) ≡ true) (s : Same (graphOf n positive negative) k d (a .node)) (met : List Item)
-            → met ++ itemsBelow d (dueGroups (graphOf n positive negative) k from)
-            ≡ (met ++ itemsBelow (withVertex (graphOf n positive negative) (a .node) v) (dueGroups (graphOf n positive negative) k from))
-            ++ itemsBelow (leaveOut (a .node) v) (dueGroups (graphOf n positive negative) k from)
+        branches : (n : ℕ) (so : sound (g n) ≡ true) (s : Same (g n) k d (a .node)) (met : List Item)
+            → met ++ itemsBelow d (dueGroups (g n) k from)
+            ≡ (met ++ itemsBelow (withVertex (g n) (a .node) v) (dueGroups (g n) k from))
+            ++ itemsBelow (leaveOut (a .node) v) (dueGroups (g n) k from)
         branches n so s met =
             ap (λ (x : List Item). met ++ x)
-            (same-due (graphOf n positive negative) (to-sound (graphOf n positive negative) so) k from d (a .node) s
-            ∙ step-due (graphOf n positive negative) (to-sound (graphOf n positive negative) so) k from (a .node) (s .valid) v is open-node)
-            ∙ sym (append-assoc met (itemsBelow (withVertex (graphOf n positive negative) (a .node) v) (dueGroups (graphOf n positive negative) k from))
-            (itemsBelow (leaveOut (a .node) v) (dueGroups (graphOf n positive negative) k from)))
+            (same-due (g n) (gs n so) k from d (a .node) s
+            ∙ step-due (g n) (gs n so) k from (a .node) (s .valid) v is open-node)
+            ∙ sym (append-assoc met (itemsBelow (withVertex (g n) (a .node) v) (dueGroups (g n) k from))
+            (itemsBelow (leaveOut (a .node) v) (dueGroups (g n) k from)))
 
         -- a full page stays
         pub lists-full : first .end ≡ More → Lists positive negative k from d page entry first mid
         lists-full more n so va buffer met h =
-            let s : Same (graphOf n positive negative) k d (a .node) = adv n so va .1 e in
+            let s : Same (g n) k d (a .node) = adv n so va .1 e in
             subst (λ (x : List Item). Holds from buffer x first mid) (sym (branches n so s met))
-            (holds-full from buffer (after-in n so s buffer met h) more (itemsBelow (leaveOut (a .node) v) (dueGroups (graphOf n positive negative) k from)))
+            (holds-full from buffer (after-in n so s buffer met h) more (itemsBelow (leaveOut (a .node) v) (dueGroups (g n) k from)))
 
         pub lists-both : (out-child : Node) → out-child ≡ leaveOut (a .node) v → (after : Page) (exit : List ℕ)
             → Lists positive negative k from out-child first mid after exit → Lists positive negative k from d page entry after exit
         lists-both out-child out-is after exit second n so va buffer met h =
-            let s : Same (graphOf n positive negative) k d (a .node) = adv n so va .1 e in
-            let done : List Item = met ++ itemsBelow (withVertex (graphOf n positive negative) (a .node) v) (dueGroups (graphOf n positive negative) k from) in
+            let s : Same (g n) k d (a .node) = adv n so va .1 e in
+            let done : List Item = met ++ itemsBelow (withVertex (g n) (a .node) v) (dueGroups (g n) k from) in
             subst (λ (x : List Item). Holds from buffer x after exit) (sym (branches n so s met))
-            (subst (λ (x : Node). Holds from buffer (done ++ itemsBelow x (dueGroups (graphOf n positive negative) k from)) after exit) out-is
-            (second n so (subst (Valid (graphOf n positive negative)) (sym out-is)
-            (step-out (graphOf n positive negative) (to-sound (graphOf n positive negative) so) k from (a .node) (s .valid) v is open-node))
+            (subst (λ (x : Node). Holds from buffer (done ++ itemsBelow x (dueGroups (g n) k from)) after exit) out-is
+            (second n so (subst (Valid (g n)) (sym out-is)
+            (step-out (g n) (gs n so) k from (a .node) (s .valid) v is open-node))
             buffer done (after-in n so s buffer met h)))
 
 -- ---- the whole

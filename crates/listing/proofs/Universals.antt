@@ -21,8 +21,7 @@ use Rattle.signed_graph.specs.declared.SignedGraph.{SignedGraph}
 use Rattle.signed_graph.proofs.Soundness.{Sound}
 use Rattle.listing.specs.declared.Side.{Side}
 use Rattle.listing.specs.declared.Node.{Node}
-use Rattle.listing.specs.Listing.{Item, Listed}
-use Rattle.listing.specs.Nodes.{undecided, others, narrowed, flip, putLeft, putIn, withVertex, Valid, Free, Universal, on-left, on-right, Below, Same}
+use Rattle.listing.specs.Nodes.{undecided, others, narrowed, flip, putLeft, putIn, withVertex, Valid, Free, Universal, on-left, on-right, Same}
 use Rattle.listing.proofs.Nodes.{others-keep, both-in, in-first, positives, negatives, candidates-64, put-valid}
 use Rattle.listing.proofs.Below.{below-put, put-below}
 use Rattle.listing.proofs.Prunes.{universal-in, universal-chosen, universal-held}
@@ -83,13 +82,19 @@ module _ (g : SignedGraph) (so : Sound g) (k : ℕ) (d : Node) (h : Valid g d) (
 -- ---- one after the other
 
 module _ (positive negative : List ℕ) (d : Node) (free : ℕ) where
+  abbrev g : ℕ → SignedGraph
+  g n = graphOf n positive negative
+
+  gs : (n : ℕ) → sound (graphOf n positive negative) ≡ true → Sound (graphOf n positive negative)
+  gs n so = to-sound (graphOf n positive negative) so
+
   -- e has those that are not left in, and those that are left are universal
   pub record Settling (left : ℕ) (e : Node) : Type 0 where
     pub fits : left < 2 ^ 64
     pub fewer : Subset (undecided e) (undecided d)
-    pub stands : (n k : ℕ) → sound (graphOf n positive negative) ≡ true → Valid (graphOf n positive negative) d
+    pub stands : (n k : ℕ) → sound (g n) ≡ true → Valid (g n) d
         → ((u : ℕ) → mem u free ≡ true → Universal positive negative d u)
-        → Same (graphOf n positive negative) k d e × ((u : ℕ) → mem u left ≡ true → Universal positive negative e u)
+        → Same (g n) k d e × ((u : ℕ) → mem u left ≡ true → Universal positive negative e u)
 
   pub settling-begin : free < 2 ^ 64 → Settling free d
   settling-begin h =
@@ -116,11 +121,11 @@ module _ (positive negative : List ℕ) (d : Node) (free : ℕ) where
           fits = rest-lt 64 left (h .fits);
           fewer = λ p m. h .fewer p (put-fewer e v (getD positive v 0) (getD negative v 0) p m);
           stands = λ n k so va w.
-              let s : Same (graphOf n positive negative) k d e × ((u : ℕ) → mem u left ≡ true → Universal positive negative e u) = h .stands n k so va w in
-              let t : Same (graphOf n positive negative) k e (withVertex (graphOf n positive negative) e v)
-              = universal-same (graphOf n positive negative) (to-sound (graphOf n positive negative) so) k e (s .0 .valid) v small (s .1 v here) in (
+              let s : Same (g n) k d e × ((u : ℕ) → mem u left ≡ true → Universal positive negative e u) = h .stands n k so va w in
+              let t : Same (g n) k e (withVertex (g n) e v)
+              = universal-same (g n) (gs n so) k e (s .0 .valid) v small (s .1 v here) in (
                 record { valid = t .valid; to = λ x lx b. t .to x lx (s .0 .to x lx b); from = λ x lx b. s .0 .from x lx (t .from x lx b) },
-                λ u m. universal-stays (graphOf n positive negative) (to-sound (graphOf n positive negative) so) k e (s .0 .valid) v small (s .1 v here) u
+                λ u m. universal-stays (g n) (gs n so) k e (s .0 .valid) v small (s .1 v here) u
                     (eqb-false u v (not-true (eqb u v) (and-right (mem u left) (not (eqb u v)) (in-rest u m))))
                     (s .1 u (and-left (mem u left) (not (eqb u v)) (in-rest u m))),
               );

@@ -1,7 +1,6 @@
 -- What the page call answers and leaves in its buffer, refusals included. Assumes nothing.
 use Prim.Native.Nat.{ℕ}
 use mathlib.Core.List.{List}
-use lib.ListN.{length}
 use Rattle.signed_graph.specs.declared.SignedGraph.{SignedGraph}
 use Rattle.signed_graph.specs.declared.Check.{Check}
 use Rattle.signed_graph.specs.declared.Check.the-variants.{Accepted, Refused}

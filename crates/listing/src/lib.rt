@@ -147,11 +147,12 @@ fn put_group(page: Page, left: u64, right: u64, out: &mut [u8]) -> Page
             end: End::Finished,
         }
     } else {
+        let end = End::More;
         Page {
             outcome: Check::Accepted,
             count,
             next,
-            end: End::More,
+            end,
         }
     }
 }

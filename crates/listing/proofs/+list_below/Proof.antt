@@ -1,12 +1,11 @@
 -- `listing::list_below` meets its contract. The vertices still undecided fall in number at each call of itself. Assumes nothing.
 use Prim.Native.Nat.{ℕ, _<_}
 use native.Mathlib.Omega.{arith}
-use mathlib.Core.Path.{_≡_, refl, sym, ap, _∙_, subst}
 use borrow.Author.Needs.{needs}
 use borrow.Fn.Kinds.{In}
 use borrow.Fn.PlainCycle.{Measures, is, falls, and}
 use Rattle.vertex_set.specs.Sets.{size}
-use Rattle.vertex_set.proofs.LowestVertex.{lowest-lt, lowest-in}
+use Rattle.vertex_set.proofs.LowestVertex.{lowest-lt}
 use Rattle.listing.specs.Nodes.{undecided}
 use Rattle.listing.proofs.Falling.{put-falls, out-falls}
 use Rattle.listing.proofs.Search.{lists-past, lists-barren, lists-leaf, lists-full, lists-both}
