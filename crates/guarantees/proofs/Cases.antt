@@ -1,4 +1,4 @@
--- Document 01's cases T1 to T12 and its three buffers, in its order and words, by the definitions that the calls answer by.
+-- Document 01's cases T1 to T12 and its three buffers, by the definitions that the calls answer by, in one theorem.
 -- Assumes nothing.
 use Prim.Native.Nat.{ℕ, _/_, _≤_, min}
 use native.Mathlib.Nat.{min-zero}
@@ -44,45 +44,45 @@ abbrev group : List ℕ → List ℕ → Item
 group l r = record { vertices = set (l ++ r); left = set l; right = set r }
 
 pub record Cases : Type 0 where
-  -- the book of A is read as A
+  -- the edge list of A decodes to A
   pub A : GraphA
-  -- n = 0: no group, biggest 12, finished at Start
+  -- no vertices: no group, the largest call returns 12, and the first page is the last
   pub T1 : (k : ℕ) → listing (edgeless 0) k ≡ []
   pub T1-largest : (k : ℕ) → k ≤ 32 → largestGroup (edgeless 0) k ≡ record { outcome = NoGroup; left = 0; right = 0 }
   pub T1-12 : (k : ℕ) → k ≤ 32 → numberOf (largestGroup (edgeless 0) k .outcome) ≡ 12
   pub T1-page : (k : ℕ) → k ≤ 32 → (room : ℕ)
       → pageOf (edgeless 0) k Start room ≡ record { outcome = Accepted; count = 0; next = Start; end = Finished }
-  -- n = 1: k = 0 gives `0 |`, k = 1 none
+  -- one vertex: `0 |` for k = 0, nothing for k = 1
   pub T2-at-0 : listing (edgeless 1) 0 ≡ group (0 ∷ []) [] ∷ []
   pub T2-at-1 : listing (edgeless 1) 1 ≡ []
-  -- three paths all opposing, k = 1: `0 | 1`, `0 | 2`, `1 | 2`
+  -- three vertices, all edges negative: each two of them
   pub T3 : listing triangle 1 ≡ group (0 ∷ []) (1 ∷ []) ∷ group (0 ∷ []) (2 ∷ []) ∷ group (1 ∷ []) (2 ∷ []) ∷ []
-  -- 0,1 and 1,2 track, 0,2 not given, k = 0: `0 1 |`, `1 2 |`
+  -- the positive edges 0,1 and 1,2: each of them, since 0 and 2 have no edge
   pub T4 : listing chain 0 ≡ group (0 ∷ 1 ∷ []) [] ∷ group (1 ∷ 2 ∷ []) [] ∷ []
-  -- A, k = 1: as printed
+  -- A at k = 1: two groups, the first of them the largest
   pub T5 : listing sampleA 1 ≡ group (0 ∷ 1 ∷ []) (2 ∷ 3 ∷ []) ∷ group (0 ∷ 4 ∷ []) (2 ∷ []) ∷ []
   pub T5-largest : largestGroup sampleA 1 ≡ record { outcome = Found; left = set (0 ∷ 1 ∷ []); right = set (2 ∷ 3 ∷ []) }
-  -- A, k = 2: `0 1 | 2 3`; cut keeps 6 pairs (at k = 1 all 8)
+  -- A at k = 2: the larger alone; reduced for 2 it has 6 edges, reduced for 1 all 8
   pub T6 : listing sampleA 2 ≡ group (0 ∷ 1 ∷ []) (2 ∷ 3 ∷ []) ∷ []
   pub T6-edges : edgeCount (reduced sampleA 2 .graph) ≡ 6
   pub T6-at-1-edges : edgeCount (reduced sampleA 1 .graph) ≡ 8
-  -- A, k = 3: none
+  -- A at k = 3: no group
   pub T7 : listing sampleA 3 ≡ []
-  -- A, k = 1, {0,1,4}: missing 1,4
+  -- what sets are: 1 and 4 have no edge
   pub T8 : classified sampleA 1 (set (0 ∷ 1 ∷ 4 ∷ [])) ≡ As (MissingEdge 1 4)
-  -- A, k = 1, {0,2}: widens by 1
+  -- 1 can be added
   pub T9 : classified sampleA 1 (set (0 ∷ 2 ∷ [])) ≡ As (Extensible 1)
-  -- T3's sheet, k = 1, {0,1,2}: torn 0,1,2
+  -- three negative edges
   pub T10 : classified triangle 1 (set (0 ∷ 1 ∷ 2 ∷ [])) ≡ As (Unbalanced 0 1 2)
-  -- A, k = 2, {0,2,4}: short 2, 1
+  -- the right side has one vertex only
   pub T11 : classified sampleA 2 (set (0 ∷ 2 ∷ 4 ∷ [])) ≡ As (TooSmall 2 1)
-  -- A, k = 1, After {0,1,2,3}, a buffer of 16 bytes: `0 4 | 2`, finished
+  -- a page of one record behind the first group of A, whatever the buffer held: the second group, and it is the last
   pub T12 : pageOf sampleA 1 (After (set (0 ∷ 1 ∷ 2 ∷ 3 ∷ []))) 16
       ≡ record { outcome = Accepted; count = 1; next = After (set (0 ∷ 2 ∷ 4 ∷ [])); end = Finished }
   pub T12-bytes : (buffer : List ℕ) → length buffer ≡ 16
       → pageBytes sampleA 1 (After (set (0 ∷ 1 ∷ 2 ∷ 3 ∷ []))) buffer
       ≡ 17 ∷ 0 ∷ 0 ∷ 0 ∷ 0 ∷ 0 ∷ 0 ∷ 0 ∷ 4 ∷ 0 ∷ 0 ∷ 0 ∷ 0 ∷ 0 ∷ 0 ∷ 0 ∷ []
-  -- a buffer of 31 bytes takes one record, 32 two, 15 none
+  -- records go in whole
   pub bytes-31 : pageOf sampleA 1 Start 31 .count ≡ 1
   pub bytes-32 : pageOf sampleA 1 Start 32 .count ≡ 2
   pub bytes-15 : pageOf sampleA 1 Start 15 .count ≡ 0

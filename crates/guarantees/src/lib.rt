@@ -8,11 +8,13 @@ use signed_graph::SignedGraph;
 ghost use mathlib.Core.Path.{_≡_};
 ghost use Rattle.edge_list.specs.declared.Outcome.the-variants as outcome;
 ghost use Rattle.edge_list.specs.Decoding.{accepted, decoded};
+ghost use Rattle.reduction.specs.Reductions.{reduced};
 ghost use Rattle.listing.specs.Largest.{largestGroup};
 ghost use Rattle.guarantees.specs.Demand.{Ran, OneOf, callOf};
 
 // An accepted edge list has a graph, the S of the theorem.
 pub fn decode_call(bytes: &[u8]) -> Decoded
+    ensures { λ r. ⌜ r ≡ decoded (now (bytes .entry)) ⌝ }
     ensures { λ r. ⌜ (r .outcome ≡ outcome.Accepted → decoded (now (bytes .entry)) ≡ accepted (r .graph)) ⌝ }
 {
     edge_list::decode(bytes)
@@ -20,6 +22,7 @@ pub fn decode_call(bytes: &[u8]) -> Decoded
 
 // S reduced for k is one of the graphs that a page call may get.
 pub fn reduce_call(g: SignedGraph, k: u64) -> Reduced
+    ensures { λ r. ⌜ r ≡ reduced g k ⌝ }
     ensures { λ r. ⌜ OneOf g k (r .graph) ⌝ }
 {
     reduction::reduce(g, k)
