@@ -1,6 +1,7 @@
 pub mod Listing
 pub mod Records
 pub mod Pages
+pub mod Counts
 pub mod Distinct
 pub mod LargestOf
 pub mod Filling

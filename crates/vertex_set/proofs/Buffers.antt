@@ -20,6 +20,18 @@ module _ {A : Type 0} where
   pub laid-start : (whole out : List A) → length whole ≤ length out → Laid whole out out 0 whole
   laid-start whole out h = record { done = []; place = refl; whole-is = refl; out-is = refl; fits = h }
 
+  -- the first piece is written, at the front
+  pub laid-first : (piece left before out : List A) (k : ℕ) → length (piece ++ left) ≤ length before → k ≡ length piece
+      → out ≡ piece ++ drop (length piece) before → Laid (piece ++ left) before out k left
+  laid-first piece left before out k h e is =
+      record {
+        done = piece;
+        place = sym e;
+        whole-is = refl;
+        out-is = is ∙ ap (λ (j : ℕ). piece ++ drop j before) (sym e);
+        fits = h;
+      }
+
   module _ {whole before out : List A} {at : ℕ} where
     -- what is to come may be written in another way
     pub laid-as : {x y : List A} → x ≡ y → Laid whole before out at x → Laid whole before out at y
@@ -62,6 +74,20 @@ module _ {A : Type 0} where
           fits = l .fits;
         }
 
+    -- the same in an array, whose length is a number m
+    module _ (m : ℕ) (long : length before ≡ m) (piece left : List A) (l : Laid whole before out at (piece ++ left)) where
+      pub array-room : length piece ≤ length (take (m - at) (drop at out))
+      array-room =
+          subst (λ (j : ℕ). length piece ≤ length (take (j - at) (drop at out))) (laid-long l ∙ long) (piece-room piece left l)
+
+      pub array-piece : (last : List A) (k : ℕ) → k ≡ length piece
+          → last ≡ piece ++ drop (length piece) (take (m - at) (drop at out))
+          → Laid whole before (putMid at (m - at) out last) (at + k) left
+      array-piece last k e =
+          subst (λ (j : ℕ). last ≡ piece ++ drop (length piece) (take (j - at) (drop at out))
+          → Laid whole before (putMid at (j - at) out last) (at + k) left) (laid-long l ∙ long)
+          (λ is. laid-piece piece left last k l e is)
+
     -- one element is stored
     pub laid-store : (x : A) (left : List A) → Laid whole before out at (x ∷ left) → Laid whole before (set out at x) (at + 1) left
     laid-store x left l =
@@ -84,3 +110,14 @@ module _ {A : Type 0} where
     pub laid-end : Laid whole before out at [] → out ≡ whole ++ drop (length whole) before
     laid-end l =
         l .out-is ∙ ap₂ (λ (x : List A) (k : ℕ). x ++ drop k before) (sym (l .whole-is ∙ append-nil (l .done))) (laid-length l)
+
+  -- a list at the front of a buffer, taken from there
+  module _ (whole rest out : List A) (k : ℕ) (e : k ≡ length whole) (is : out ≡ whole ++ rest) where
+    pub front-is : take k out ≡ whole
+    front-is = ap (take k) is ∙ take-at whole rest k (sym e)
+
+    pub front-room : k ≤ length out
+    front-room = omega (arith, ap length is, length-append whole rest)
+
+    pub front-length : k ≡ length (take k out)
+    front-length = e ∙ sym (ap length front-is)

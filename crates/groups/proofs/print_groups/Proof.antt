@@ -1,0 +1,92 @@
+-- `groups::print_groups` meets its contract. The groups that are counted and those that are due are all groups, and fewer are due
+-- from page to page. Assumes nothing.
+use Prim.Native.Nat.{ℕ, _+_, _<_}
+use native.Mathlib.Omega.{arith}
+use mathlib.Core.Path.{_≡_, sym, subst}
+use borrow.Author.Needs.{needs}
+use lib.ListN.{length}
+use Rattle.signed_graph.specs.declared.SignedGraph.{SignedGraph}
+use Rattle.signed_graph.specs.declared.Check.the-variants.{Accepted}
+use Rattle.signed_graph.specs.Calls.{checkOf}
+use Rattle.signed_graph.proofs.Soundness.{to-sound}
+use Rattle.signed_graph.proofs.Calls.{accepted-sound}
+use Rattle.listing.specs.declared.Bookmark.{Bookmark}
+use Rattle.listing.specs.declared.End.the-variants.{Finished, More}
+use Rattle.listing.specs.declared.Page.{Page}
+use Rattle.listing.specs.Listing.{listing}
+use Rattle.listing.specs.Pages.{due}
+use Rattle.listing.specs.Calls.{dueGroups, pageOf}
+use Rattle.listing.proofs.Counts.{listing-few, page-rest, page-last, fewer-due}
+use Rattle.groups.proofs.print_groups.Statement.{statement}
+use Rattle.groups.proofs.print_groups.Tie as tie
+
+abbrev Inv-loop : tie.InvT-loop
+Inv-loop g k from₀ count₀ from count = count + length (dueGroups g k from) ≡ length (listing g k)
+
+abbrev μ-loop : tie.MeasureT-loop
+μ-loop g k from₀ count₀ from count = length (dueGroups g k from)
+
+module _ (g : SignedGraph) (k : ℕ) (from : Bookmark) (page : Page) (e : page ≡ pageOf g k from 1024) where
+  rest : page .count + length (dueGroups g k (page .next)) ≡ length (dueGroups g k from)
+  rest =
+      subst (λ (p : Page). p .count + length (dueGroups g k (p .next)) ≡ length (dueGroups g k from)) (sym e) (page-rest g k from 1024)
+
+  last : page .end ≡ Finished → page .count ≡ length (dueGroups g k from)
+  last =
+      subst (λ (p : Page). p .end ≡ Finished → p .count ≡ length (dueGroups g k from)) (sym e) (page-last g k from 1024)
+
+  fewer : checkOf g k ≡ Accepted → page .end ≡ More → length (dueGroups g k (page .next)) < length (dueGroups g k from)
+  fewer a =
+      subst (λ (p : Page). p .end ≡ More → length (dueGroups g k (p .next)) < length (dueGroups g k from)) (sym e)
+      (fewer-due g k from 1024 (omega arith) a)
+
+loop-holds : tie.Need-loop-holds Inv-loop μ-loop
+unfolding due
+loop-holds c = omega arith
+
+add-count : tie.Need-add-count Inv-loop μ-loop
+add-count c =
+    let b = c .before .before in
+    let l = c .before .loop in
+    let p = c .print-page in
+    omega (
+      arith,
+      l .inv,
+      rest (b .args .g) (b .args .k) (l .from) (p .result) (p .ensures),
+      listing-few (b .args .g) (to-sound (b .args .g) (accepted-sound (b .args .g) (b .args .k) (b .pre))) (b .args .k),
+    )
+
+returns : tie.Need-returns Inv-loop μ-loop
+returns c =
+    let a = c .before .before .before .before .args in
+    let l = c .before .before .before .loop in
+    let p = c .before .before .print-page in
+    omega (arith, l .inv, last (a .g) (a .k) (l .from) (p .result) (p .ensures) (c .enum-told2 .given .1))
+
+loop-less : tie.Need-loop-less Inv-loop μ-loop
+loop-less c =
+    let b = c .before .before .before .before in
+    let p = c .before .before .print-page in
+    fewer (b .args .g) (b .args .k) (c .before .before .before .loop .from) (p .result) (p .ensures) (b .pre) (c .enum-told .given .1)
+
+loop-again : tie.Need-loop-again Inv-loop μ-loop
+loop-again c =
+    let a = c .before .before .before .before .args in
+    let l = c .before .before .before .loop in
+    let p = c .before .before .print-page in
+    omega (arith, l .inv, rest (a .g) (a .k) (l .from) (p .result) (p .ensures))
+
+pub print-groups-spec : {M : Type 1} → statement M
+print-groups-spec =
+    tie.close
+    (tie.spec
+    Inv-loop
+    μ-loop
+    loop-holds
+    (λ c κs. search needs)
+    add-count
+    (λ c. search needs)
+    (λ c. search needs)
+    returns
+    loop-less
+    loop-again)

@@ -1,0 +1,74 @@
+-- `groups::put_page` meets its contract. The records are within the array, and their lines are the groups'. Assumes nothing.
+use Prim.Native.Nat.{ℕ, _*_, _≤_}
+use native.Mathlib.Omega.{arith}
+use mathlib.Core.Path.{_≡_, refl, sym, ap, ap₂, _∙_, subst}
+use mathlib.Core.List.{List}
+use borrow.Author.Needs.{needs}
+use lib.ListN.{length, take, replicate, length-take}
+use lib.Seq.{length-take-le}
+use Rattle.vertex_set.proofs.Buffers.{front-is}
+use Rattle.signed_graph.specs.declared.SignedGraph.{SignedGraph}
+use Rattle.listing.specs.declared.Bookmark.{Bookmark}
+use Rattle.listing.specs.declared.Page.{Page}
+use Rattle.listing.specs.Calls.{pageOf}
+use Rattle.listing.proofs.Counts.{page-fits}
+use Rattle.groups.specs.Answers.{recordsText}
+use Rattle.groups.proofs.Texts.{page-text}
+use Rattle.groups.proofs.put_page.Statement.{statement}
+use Rattle.groups.proofs.put_page.Tie as tie
+
+fits : (g : SignedGraph) (k : ℕ) (from : Bookmark) (page : Page) → page ≡ pageOf g k from 1024 → 16 * page .count ≤ 1024
+fits g k from page e = subst (λ (p : Page). 16 * p .count ≤ 1024) (sym e) (page-fits g k from 1024)
+
+mul-end : tie.Need-mul-end
+mul-end c =
+    let a = c .before .before .before .before .args in
+    let p = c .before .before .list-page in
+    omega (arith, fits (a .g) (a .k) (a .from) (p .result) (p .ensures .0))
+
+prefix : tie.Need-array-share-prefix-space
+prefix c =
+    let a = c .before .before .before .before .args in
+    let p = c .before .before .list-page in
+    omega (arith, p .kept .1 .1 .1 .0, fits (a .g) (a .k) (a .from) (p .result) (p .ensures .0))
+
+prefix-length : tie.Need-slice-aggregate-put-records
+prefix-length c =
+    let a = c .before .before .before .before .before .args in
+    let p = c .before .before .before .list-page in
+    sym (length-take-le _ _ (omega (arith, p .kept .1 .1 .1 .0, fits (a .g) (a .k) (a .from) (p .result) (p .ensures .0))))
+
+put-records-requires : tie.Need-put-records-requires
+put-records-requires c κs =
+    let a = c .before .before .before .before .before .before .args in
+    let p = c .before .before .before .before .list-page in
+    omega (
+      arith,
+      length-take (16 * p .result .count) (p .last .1 .1 .1 .0),
+      fits (a .g) (a .k) (a .from) (p .result) (p .ensures .0),
+    )
+
+abbrev space : List ℕ
+space = replicate 1024 0
+
+returns : tie.Need-returns
+returns c =
+    let b = c .before .before .before .before .before .before .before in
+    let a = b .args in
+    let p = c .before .before .before .before .before .list-page in
+    let r = c .put-records in
+    let e = ap₂ (λ (x : Page) (s : List ℕ). recordsText (take (16 * x .count) s)) (p .ensures .0) (p .ensures .1 .0)
+    ∙ page-text (a .g) (a .k) (a .from) space refl (b .pre) in
+    (p .ensures .0, (r .ensures .0 ∙ ap length e, front-is (recordsText _) _ _ (r .result) (r .ensures .0) (r .ensures .1) ∙ e))
+
+pub put-page-spec : {M : Type 1} → statement M
+put-page-spec =
+    tie.close
+    (tie.spec
+    (λ c. search needs)
+    (λ c κs. search needs)
+    mul-end
+    prefix
+    prefix-length
+    put-records-requires
+    returns)
