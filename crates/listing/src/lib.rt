@@ -1,4 +1,4 @@
-// The groups of a graph by pages, in listing order, and a record looked up in a listing.
+// The groups of a graph by pages, in listing order, the largest of them, and a record looked up in a listing.
 use signed_graph::Check;
 use signed_graph::Refusal;
 use signed_graph::SignedGraph;
@@ -9,15 +9,15 @@ ghost use Prim.Native.Nat.{ℕ, _≤_};
 ghost use lib.ListN.{length, drop};
 ghost use lib.Bits.{bitOr};
 ghost use Rattle.vertex_set.specs.Sets.{Subset};
-ghost use Rattle.clique.specs.Order as order;
-ghost use Rattle.listing.specs.Listing.{Item, listing};
-ghost use Rattle.listing.specs.Records.{bytesOf, sidesRecord, recordAt};
 ghost use Rattle.signed_graph.specs.Soundness.{sound};
 ghost use Rattle.signed_graph.specs.Calls.{numberOf, refusalNumber};
+ghost use Rattle.clique.specs.Order as order;
+ghost use Rattle.listing.specs.declared.Bookmark.the-variants as bookmark;
+ghost use Rattle.listing.specs.Listing.{Item, listing};
+ghost use Rattle.listing.specs.Records.{bytesOf, sidesRecord, recordAt};
 ghost use Rattle.listing.specs.Pages.{dueAt};
 ghost use Rattle.listing.specs.Calls.{dueGroups, pageOf, pageBytes};
-ghost use Rattle.listing.specs.declared.Bookmark.the-variants as start;
-ghost use Rattle.listing.specs.Largest as best;
+ghost use Rattle.listing.specs.Largest as finding;
 ghost use Rattle.listing.specs.Largest.{largestOf, answerTo, largestGroup, largestNumber};
 ghost use Rattle.listing.specs.Filling.{Holds, Past};
 ghost use Rattle.listing.specs.Nodes as nodes;
@@ -66,6 +66,7 @@ struct Side {
     excluded: u64,
 }
 
+// A node of the search.
 struct Node {
     left: Side,
     right: Side,
@@ -90,7 +91,7 @@ struct Progress {
     node: Node,
 }
 
-// Record i of a listing: its sixteen bytes, or none where it is not wholly there.
+// Record i of a listing, as a part of it; an empty part where record i is not wholly there.
 pub fn record_at(listing: &[u8], i: u64) -> &[u8]
     ensures { λ r. ⌜ now r ≡ recordAt (now (listing .entry)) i ⌝ }
 {
@@ -493,7 +494,7 @@ pub fn list_page(g: SignedGraph, k: u64, from: Bookmark, out: &mut [u8]) -> Page
 
 // The larger of the largest group so far and the chosen set of a node with nothing undecided, where that is a group.
 fn largest_leaf(at: Node, k: u64, best: Best) -> Best
-    ensures { λ r. ⌜ r ≡ bestOf best (leafItems k start.Start at) ⌝ }
+    ensures { λ r. ⌜ r ≡ bestOf best (leafItems k bookmark.Start at) ⌝ }
 {
     let left = at.left;
     let right = at.right;
@@ -573,7 +574,7 @@ fn largest_sound(g: SignedGraph, k: u64) -> LargestGroup
 // The group for k with the most vertices; of equals, the first in listing order.
 pub fn largest(g: SignedGraph, k: u64) -> LargestGroup
     ensures { λ r. ⌜ r ≡ largestGroup g k ⌝ }
-    ensures { λ r. ⌜ best.numberOf (r .outcome) ≡ largestNumber g k ⌝ }
+    ensures { λ r. ⌜ finding.numberOf (r .outcome) ≡ largestNumber g k ⌝ }
 {
     match signed_graph::check_call(g, k) {
         Check::Refused(refusal) => LargestGroup {
