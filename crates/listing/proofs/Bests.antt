@@ -3,8 +3,8 @@ use Prim.Native.Nat.{ℕ, _^_, _≤_, _<_}
 use native.Mathlib.Omega.{arith}
 use native.Mathlib.Decide.{ℕ-discrete}
 use mathlib.Core.Path.{_≡_, refl, sym, ap, ap₂, _∙_, subst}
-use mathlib.Core.Bool.{Bool, true, false, _&&_}
-use mathlib.Core.List.{List, [], _∷_, _++_, List·Memᴰ}
+use mathlib.Core.Bool.{Bool, true, false}
+use mathlib.Core.List.{List, [], _∷_, _++_}
 use mathlib.Core.Option.{Option, none, some}
 use lib.Dec.{leb, ltb}
 use lib.ListN.{getD}
@@ -12,15 +12,13 @@ use lib.Bits.{bitOr}
 use borrow.Author.Tests.{ltb-true, ltb-false, lt-ltb, le-ltb}
 use Rattle.vertex_set.specs.Lists.{All}
 use Rattle.vertex_set.specs.Sets.{mem, Subset, size, lowest}
-use Rattle.vertex_set.proofs.Booleans.{or-cases}
 use Rattle.vertex_set.proofs.Lists.{mem-all}
-use Rattle.vertex_set.proofs.Membership.{union-left, union-right, union-cases}
-use Rattle.vertex_set.proofs.Sizes.{size-subset, size-none}
+use Rattle.vertex_set.proofs.Sizes.{size-none, size-subset}
 use Rattle.signed_graph.specs.declared.SignedGraph.{SignedGraph}
 use Rattle.signed_graph.specs.Graphs.{vertices}
 use Rattle.signed_graph.specs.Soundness.{sound}
 use Rattle.signed_graph.specs.Calls.{checkBy}
-use Rattle.signed_graph.proofs.Soundness.{Sound, to-sound}
+use Rattle.signed_graph.proofs.Soundness.{to-sound}
 use Rattle.clique.proofs.Balance.{usable-64}
 use Rattle.listing.specs.declared.Bookmark.the-variants.{Start}
 use Rattle.listing.specs.declared.Finding.the-variants.{Found, NoGroup}
@@ -31,18 +29,18 @@ use Rattle.listing.specs.Listing.{Item, Listed, listing}
 use Rattle.listing.specs.Pages.{due}
 use Rattle.listing.specs.Calls.{dueGroups}
 use Rattle.listing.specs.Largest.{sizeOf, larger, largestOf, answerTo, largestBy, largestGroup, numberOf, largestNumberBy, largestNumber}
-use Rattle.listing.specs.Nodes.{chosen, undecided, whole, putIn, withVertex, leaveOut, Valid, Below, Same, itemsBelow, groupAt, leafItem, rootOf}
-use Rattle.listing.specs.Search.{graphOf, Advances, leafItems, bestItem, better, bestOf, Finds}
-use Rattle.listing.proofs.Nodes.{of-left, of-right, of-undecided}
+use Rattle.listing.specs.Nodes.{chosen, undecided, whole, rootOf, putIn, leaveOut, withVertex, Below, leafItem, groupAt}
+use Rattle.listing.specs.Search.{graphOf, Advances, dueBelow, leafItems, bestItem, better, bestOf, Finds}
+use Rattle.listing.proofs.Listing.{listing-sorted, listing-exact, listed-cases}
+use Rattle.listing.proofs.LargestOf.{largest-found}
+use Rattle.listing.proofs.Nodes.{whole-left, whole-right}
 use Rattle.listing.proofs.Below.{of-below}
 use Rattle.listing.proofs.Leaves.{root-valid}
-use Rattle.listing.proofs.Listing.{listing-sorted, listing-exact}
-use Rattle.listing.proofs.LargestOf.{largest-found}
-use Rattle.listing.proofs.Search.{due-listed, none-due, same-due, leaf-due, step-in, step-out, step-due, all-due}
+use Rattle.listing.proofs.Search.{leaf-there, leaf-other, due-listed, none-due, leaf-due, step-in, step-out, step-due, all-due}
 
 -- ---- lists
 
-pub best-append : (b : Best) (xs ys : List Item) → bestOf b (xs ++ ys) ≡ bestOf (bestOf b xs) ys
+best-append : (b : Best) (xs ys : List Item) → bestOf b (xs ++ ys) ≡ bestOf (bestOf b xs) ys
 unfolding bestOf
 best-append b [] ys = refl
 best-append b (x ∷ xs) ys = best-append (better b x) xs ys
@@ -84,142 +82,121 @@ best-largest b (x ∷ l) = best-largest (better b x) l ∙ step (largestOf l)
     step none = refl
     step (some y) = two y (ltb (b .size) (sizeOf x)) refl (ltb (sizeOf x) (sizeOf y)) refl
 
+-- ---- a leaf
+
+module _ (k : ℕ) (d : Node) (b : Best) where
+  pub finds-other : groupAt k d ≡ false → b ≡ bestOf b (leafItems k Start d)
+  unfolding bestOf
+  finds-other e = sym (ap (bestOf b) (leaf-other k Start d e))
+
+  pub finds-smaller : groupAt k d ≡ true → size (chosen d) ≤ b .size → b ≡ bestOf b (leafItems k Start d)
+  unfolding bestOf
+  finds-smaller e h = sym (ap (bestOf b) (leaf-there k Start d e refl) ∙ better-not b (leafItem d) h)
+
+  pub finds-larger : (s : ℕ) → s ≡ size (chosen d) → groupAt k d ≡ true → b .size < s
+      → record { size = s; left = d .left .chosen; right = d .right .chosen } ≡ bestOf b (leafItems k Start d)
+  unfolding bestOf
+  finds-larger s is e h =
+      (λ i. record { size = is i; left = d .left .chosen; right = d .right .chosen })
+      ∙ sym (ap (bestOf b) (leaf-there k Start d e refl) ∙ better-so b (leafItem d) (omega arith))
+
 -- ---- a node
 
 module _ (positive negative : List ℕ) (k : ℕ) (d : Node) (b : Best) where
-  abbrev g : ℕ → SignedGraph
-  g n = graphOf n positive negative
-
-  gs : (n : ℕ) → sound (graphOf n positive negative) ≡ true → Sound (graphOf n positive negative)
-  gs n so = to-sound (graphOf n positive negative) so
-
   -- no set below has more vertices than the largest so far
   pub finds-none : (c u : ℕ) → c ≡ chosen d → u ≡ undecided d → size (bitOr c u) ≤ b .size → Finds positive negative k d b b
   finds-none c u is-c is-u h n so va =
-      sym (best-stays b (itemsBelow d (dueGroups (g n) k Start))
-      (mem-all (λ x. sizeOf x ≤ b .size) (itemsBelow d (dueGroups (g n) k Start)) (λ x i.
-      let r : List·Memᴰ x (dueGroups (g n) k Start) × Below d x = of-below d (dueGroups (g n) k Start) x i in
-      few x (due-listed (g n) (gs n so) k Start x (r .0)) (r .1))))
+      let g = graphOf n positive negative in
+      sym (best-stays b (dueBelow g k Start d) (mem-all (λ x. sizeOf x ≤ b .size) (dueBelow g k Start d) (λ x i.
+      let r = of-below d (dueGroups g k Start) x i in
+      few x (due-listed g (to-sound g so) k Start x (r .0)) (r .1))))
     where
-      all-in : (n : ℕ) (x : Item) → Listed (g n) k x → Below d x → Subset (x .vertices) (whole d)
-      all-in n x lx bl p m =
-          or-cases (mem p (whole d) ≡ true) (mem p (x .left)) (mem p (x .right)) (sym (lx .sides .split .either p) ∙ m)
-          (λ y. union-cases (mem p (whole d) ≡ true) p (d .left .chosen) (d .left .candidates) (bl .left .only p y) (of-left d p)
-          (λ z. of-undecided d p (union-left p (d .left .candidates) (d .right .candidates) z)))
-          (λ y. union-cases (mem p (whole d) ≡ true) p (d .right .chosen) (d .right .candidates) (bl .right .only p y) (of-right d p)
-          (λ z. of-undecided d p (union-right p (d .left .candidates) (d .right .candidates) z)))
-
-      few : {n : ℕ} (x : Item) → Listed (g n) k x → Below d x → sizeOf x ≤ b .size
-      few {n} x lx bl =
+      few : {g : SignedGraph} (x : Item) → Listed g k x → Below d x → sizeOf x ≤ b .size
+      few x lx bl =
           let e : size (bitOr c u) ≡ size (whole d) = ap₂ (λ (y z : ℕ). size (bitOr y z)) is-c is-u in
-          omega (arith, size-subset (x .vertices) (whole d) (all-in n x lx bl))
+          omega (arith, size-subset (x .vertices) (whole d) within)
+        where
+          within : Subset (x .vertices) (whole d)
+          within p m =
+              listed-cases lx p (mem p (whole d) ≡ true) m
+              (λ y. whole-left d p (bl .left .only p y)) (λ y. whole-right d p (bl .right .only p y))
 
   module _ (a : Progress) (adv : Advances positive negative k d a) where
     pub finds-barren : a .barren ≡ true → Finds positive negative k d b b
     unfolding bestOf
-    finds-barren e n so va =
-        sym (ap (bestOf b) (none-due (g n) (gs n so) k Start d (adv n so va .0 e)))
+    finds-barren e n so va = sym (ap (bestOf b) (none-due _ (to-sound _ so) k Start d (adv n so va .0 e)))
 
     module _ (e : a .barren ≡ false) where
       pub finds-leaf : (after : Best) (u : ℕ) → u ≡ undecided (a .node) → u ≡ 0 → after ≡ bestOf b (leafItems k Start (a .node))
           → Finds positive negative k d b after
       finds-leaf after u is-u done is n so va =
-          let s : Same (g n) k d (a .node) = adv n so va .1 e in
-          is ∙ ap (bestOf b) (sym
-          (same-due (g n) (gs n so) k Start d (a .node) s
-          ∙ leaf-due (g n) (gs n so) k Start (a .node) (s .valid) (sym is-u ∙ done)))
+          is ∙ ap (bestOf b) (sym (leaf-due _ (to-sound _ so) k Start (adv n so va .1 e) (sym is-u ∙ done)))
 
-      pub finds-both : (u v : ℕ) → u ≡ undecided (a .node) → (u ≡ 0 → ⊥) → v ≡ lowest u → (in-child : Node)
-          → in-child ≡ putIn (a .node) v (getD positive v 0) (getD negative v 0) → (first : Best) → Finds positive negative k in-child b first
-          → (out-child : Node) → out-child ≡ leaveOut (a .node) v → (after : Best) → Finds positive negative k out-child first after
-          → Finds positive negative k d b after
-      finds-both u v is-u open-u is-v in-child in-is first one out-child out-is after two n so va =
-          let s : Same (g n) k d (a .node) = adv n so va .1 e in
-          let is : v ≡ lowest (undecided (a .node)) = is-v ∙ ap lowest is-u in
-          let pos : 0 < undecided (a .node) = omega (arith, open-u) in
-          let A : List Item = itemsBelow (withVertex (g n) (a .node) v) (dueGroups (g n) k Start) in
-          let B : List Item = itemsBelow (leaveOut (a .node) v) (dueGroups (g n) k Start) in
+      pub finds-both : (u v : ℕ) → u ≡ undecided (a .node) → (u ≡ 0 → ⊥) → v ≡ lowest u
+          → (in-child : Node) → in-child ≡ putIn (a .node) v (getD positive v 0) (getD negative v 0)
+          → (first : Best) → Finds positive negative k in-child b first
+          → (out-child : Node) → out-child ≡ leaveOut (a .node) v
+          → (after : Best) → Finds positive negative k out-child first after → Finds positive negative k d b after
+      finds-both u v is-u some-u is-v in-child in-is first one out-child out-is after two n so va =
+          let g = graphOf n positive negative in
+          let gs = to-sound g so in
+          let s = adv n so va .1 e in
+          let is = is-v ∙ ap lowest is-u in
+          let pos : 0 < undecided (a .node) = omega (arith, some-u) in
+          let A = dueBelow g k Start (withVertex g (a .node) v) in
+          let B = dueBelow g k Start (leaveOut (a .node) v) in
           let first-is : first ≡ bestOf b A =
-          one n so (subst (Valid (g n)) (sym in-is)
-          (step-in (g n) (gs n so) k Start (a .node) (s .valid) v is pos))
-          ∙ ap (λ (x : Node). bestOf b (itemsBelow x (dueGroups (g n) k Start))) in-is in
+          subst (λ (x : Node). Finds positive negative k x b first) in-is one n so (step-in g gs k Start s v is pos) in
           let after-is : after ≡ bestOf first B =
-          two n so (subst (Valid (g n)) (sym out-is)
-          (step-out (g n) (gs n so) k Start (a .node) (s .valid) v is pos))
-          ∙ ap (λ (x : Node). bestOf first (itemsBelow x (dueGroups (g n) k Start))) out-is in
+          subst (λ (x : Node). Finds positive negative k x first after) out-is two n so (step-out g gs k Start s v is pos) in
           after-is ∙ ap (λ (x : Best). bestOf x B) first-is ∙ sym (best-append b A B)
-          ∙ ap (bestOf b) (sym
-          (same-due (g n) (gs n so) k Start d (a .node) s
-          ∙ step-due (g n) (gs n so) k Start (a .node) (s .valid) v is pos))
+          ∙ ap (bestOf b) (sym (step-due g gs k Start s v is pos))
 
--- ---- the leaf
-
-module _ (k : ℕ) (d : Node) (b : Best) where
-  leaf-as : (t : Bool) → groupAt k d ≡ t → leafItems k Start d ≡ elim t [ true ↦ leafItem d ∷ [] | false ↦ [] ]
-  leaf-as true e = ap (λ (x : Bool). elim (x && true) [ true ↦ leafItem d ∷ [] | false ↦ [] ]) e
-  leaf-as false e = ap (λ (x : Bool). elim (x && true) [ true ↦ leafItem d ∷ [] | false ↦ [] ]) e
-
-  pub leaf-no-group : groupAt k d ≡ false → b ≡ bestOf b (leafItems k Start d)
-  unfolding bestOf
-  leaf-no-group e = sym (ap (bestOf b) (leaf-as false e))
-
-  pub leaf-no-larger : groupAt k d ≡ true → size (chosen d) ≤ b .size → b ≡ bestOf b (leafItems k Start d)
-  unfolding bestOf
-  leaf-no-larger e h = sym (ap (bestOf b) (leaf-as true e) ∙ better-not b (leafItem d) h)
-
-  pub leaf-larger : (s : ℕ) → s ≡ size (chosen d) → groupAt k d ≡ true → b .size < s
-      → record { size = s; left = d .left .chosen; right = d .right .chosen } ≡ bestOf b (leafItems k Start d)
-  unfolding bestOf
-  leaf-larger s is e h =
-      (λ i. record { size = is i; left = d .left .chosen; right = d .right .chosen })
-      ∙ sym (ap (bestOf b) (leaf-as true e) ∙ better-so b (leafItem d) (omega arith))
-
--- ---- the whole
+-- ---- the root
 
 abbrev nothing : Best
 nothing = record { size = 0; left = 0; right = 0 }
 
 module _ (g : SignedGraph) (k : ℕ) (so : sound g ≡ true) where
-  from-all : (all : ℕ) (top : Node) (best : Best) → all ≡ vertices g → top ≡ rootOf all
-      → Finds (g .positive) (g .negative) k top (record { size = 0; left = 0; right = 0 }) best → best ≡ against nothing (largestOf (listing g k))
-  unfolding due
-  from-all all top best is-all is-top went =
-      let is-root : top ≡ rootOf (vertices g) = is-top ∙ ap rootOf is-all in
-      went (g .n) so (subst (Valid g) (sym is-root) (root-valid g))
-      ∙ ap (λ (x : Node). bestOf nothing (itemsBelow x (dueGroups g k Start))) is-root
-      ∙ ap (bestOf nothing) (all-due g (to-sound g so) k Start) ∙ best-largest nothing (listing g k)
-
+  -- no group is empty
   some-size : (y : Item) → largestOf (listing g k) ≡ some y → 0 < sizeOf y
   some-size y e =
-      let lx : Listed g k y = listing-exact g (to-sound g so) k y .0 (largest-found (listing g k) (listing-sorted g (to-sound g so) k) y e .listed) in
-      go (ℕ-discrete (sizeOf y) 0) (usable-64 g (to-sound g so) (y .vertices) (lx .group .balanced .usable)) (lx .group .nonempty)
+      let gs = to-sound g so in
+      let lx = listing-exact g gs k y .0 (largest-found (listing g k) (listing-sorted g gs k) y e .listed) in
+      go (ℕ-discrete (sizeOf y) 0) (usable-64 g gs (y .vertices) (lx .group .balanced .usable)) (lx .group .nonempty)
     where
       go : Dec (sizeOf y ≡ 0) → y .vertices < 2 ^ 64 → 0 < y .vertices → 0 < sizeOf y
       go (yes z) fits pos = absurd (let n : y .vertices ≡ 0 = size-none (y .vertices) fits z in omega arith)
       go (no z) fits pos = omega arith
 
   module _ (all : ℕ) (top : Node) (best : Best) (is-all : all ≡ vertices g) (is-top : top ≡ rootOf all)
-      (went : Finds (g .positive) (g .negative) k top (record { size = 0; left = 0; right = 0 }) best) where
-    is : (o : Option Item) → largestOf (listing g k) ≡ o → best ≡ against nothing o
-    is o e = from-all all top best is-all is-top went ∙ ap (against nothing) e
+      (went : Finds (g .positive) (g .negative) k top nothing best) where
+    best-is : best ≡ against nothing (largestOf (listing g k))
+    unfolding due
+    best-is =
+        subst (λ (x : Node). Finds (g .positive) (g .negative) k x nothing best) (is-top ∙ ap rootOf is-all) went
+        (g .n) so (root-valid g)
+        ∙ ap (bestOf nothing) (all-due g (to-sound g so) k Start) ∙ best-largest nothing (listing g k)
+
+    some-best : (y : Item) → largestOf (listing g k) ≡ some y → best ≡ bestItem y
+    some-best y e = best-is ∙ ap (against nothing) e ∙ better-so nothing y (some-size y e)
 
     pub largest-none : best .size ≡ 0 → record { outcome = NoGroup; left = 0; right = 0 } ≡ answerTo (largestOf (listing g k))
     largest-none z = go (largestOf (listing g k)) refl
       where
-        go : (o : Option Item) → largestOf (listing g k) ≡ o → record { outcome = NoGroup; left = 0; right = 0 } ≡ answerTo (largestOf (listing g k))
-        go none e = sym (ap answerTo e)
+        go : (o : Option Item) → largestOf (listing g k) ≡ o → record { outcome = NoGroup; left = 0; right = 0 } ≡ answerTo o
+        go none e = refl
         go (some y) e =
-            absurd (let s : best .size ≡ sizeOf y = ap (λ (x : Best). x .size) (is (some y) e ∙ better-so nothing y (some-size y e)) in
-            omega (arith, some-size y e))
+            absurd (let s : best .size ≡ sizeOf y = ap (λ (x : Best). x .size) (some-best y e) in omega (arith, some-size y e))
 
-    pub largest-some : (best .size ≡ 0 → ⊥) → record { outcome = Found; left = best .left; right = best .right } ≡ answerTo (largestOf (listing g k))
+    pub largest-some : (best .size ≡ 0 → ⊥)
+        → record { outcome = Found; left = best .left; right = best .right } ≡ answerTo (largestOf (listing g k))
     largest-some z = go (largestOf (listing g k)) refl
       where
-        go : (o : Option Item) → largestOf (listing g k) ≡ o → record { outcome = Found; left = best .left; right = best .right } ≡ answerTo (largestOf (listing g k))
-        go none e = absurd (z (ap (λ (x : Best). x .size) (is none e)))
-        go (some y) e =
-            let i : best ≡ bestItem y = is (some y) e ∙ better-so nothing y (some-size y e) in
-            (λ j. record { outcome = Found; left = i j .left; right = i j .right }) ∙ sym (ap answerTo e)
+        go : (o : Option Item) → largestOf (listing g k) ≡ o
+            → record { outcome = Found; left = best .left; right = best .right } ≡ answerTo o
+        go none e = absurd (z (ap (λ (x : Best). x .size) (best-is ∙ ap (against nothing) e)))
+        go (some y) e = let b = some-best y e in λ j. record { outcome = Found; left = b j .left; right = b j .right }
 
 -- ---- the number of the answer
 
@@ -227,7 +204,8 @@ pub largest-number : (g : SignedGraph) (k : ℕ) → numberOf (largestGroup g k 
 unfolding largestOf
 largest-number g k = go (sound g) (leb k 32) (listing g k)
   where
-    go : (s small : Bool) (l : List Item) → numberOf (largestBy (checkBy s small) (largestOf l) .outcome) ≡ largestNumberBy s small l
+    go : (s small : Bool) (l : List Item)
+        → numberOf (largestBy (checkBy s small) (largestOf l) .outcome) ≡ largestNumberBy s small l
     go false small l = refl
     go true false l = refl
     go true true [] = refl

@@ -8,13 +8,13 @@ use mathlib.Core.List.{List·Memᴰ}
 use lib.ListN.{length, take, drop}
 use lib.Seq.{take-at, drop-at}
 use Rattle.vertex_set.specs.Sets.{mem}
-use Rattle.vertex_set.proofs.Membership.{mem-ext}
+use Rattle.vertex_set.proofs.Membership.{set-ext}
 use Rattle.signed_graph.specs.declared.SignedGraph.{SignedGraph}
 use Rattle.signed_graph.proofs.Soundness.{Sound}
-use Rattle.clique.proofs.Balance.{left-lt, right-lt, usable-64, is-left, is-right}
-use Rattle.listing.specs.Listing.{Item, listing}
+use Rattle.clique.proofs.Balance.{left-lt, right-lt}
+use Rattle.listing.specs.Listing.{Item, Listed, listing}
 use Rattle.listing.specs.Records.{bytesOf, sidesRecord, recordOf}
-use Rattle.listing.proofs.Listing.{listing-exact}
+use Rattle.listing.proofs.Listing.{listed-is, listing-exact}
 
 -- d bytes tell all numbers below 256 ^ d apart
 one-number : (d x y : ℕ) → x < 256 ^ d → y < 256 ^ d → bytesOf d x ≡ bytesOf d y → x ≡ y
@@ -41,37 +41,22 @@ module _ (a b : ℕ) where
   right-bytes = drop-at (bytesOf 8 a) (bytesOf 8 b) 8 (length-8 a)
 
 module _ (g : SignedGraph) (so : Sound g) (k : ℕ) where
-  -- an item of the listing: its sets are 64-bit sets, and its vertices are those of its sides
-  record Sized (x : Item) : Type 0 where
-    vertices-lt : x .vertices < 2 ^ 64
-    left-lt : x .left < 2 ^ 64
-    right-lt : x .right < 2 ^ 64
-    either : (p : ℕ) → mem p (x .vertices) ≡ (mem p (x .left) || mem p (x .right))
-
-  sized : (x : Item) → List·Memᴰ x (listing g k) → Sized x
-  sized x m =
-      let s : ℕ = x .vertices in
-      let h = listing-exact g so k x .0 m in
-      let s64 : s < 2 ^ 64 = usable-64 g so s (h .group .balanced .usable) in
-      record {
-        vertices-lt = s64;
-        left-lt = subst (λ (t : ℕ). t < 2 ^ 64) (sym (is-left g so s (x .left) (x .right) s64 (h .sides))) (left-lt g s);
-        right-lt = subst (λ (t : ℕ). t < 2 ^ 64) (sym (is-right g so s (x .left) (x .right) s64 (h .sides))) (right-lt g s);
-        either = h .sides .split .either;
-      }
-
   pub records-differ : (x y : Item) → List·Memᴰ x (listing g k) → List·Memᴰ y (listing g k) → recordOf x ≡ recordOf y → x ≡ y
   records-differ x y mx my e =
-      let a : Sized x = sized x mx in
-      let b : Sized y = sized y my in
+      let hx = listing-exact g so k x .0 mx in
+      let hy = listing-exact g so k y .0 my in
       let l : x .left ≡ y .left =
-      one-number 8 (x .left) (y .left) (a .left-lt) (b .left-lt)
+      one-number 8 (x .left) (y .left) (sides-lt x hx .0) (sides-lt y hy .0)
       (sym (left-bytes (x .left) (x .right)) ∙ ap (take 8) e ∙ left-bytes (y .left) (y .right)) in
       let r : x .right ≡ y .right =
-      one-number 8 (x .right) (y .right) (a .right-lt) (b .right-lt)
+      one-number 8 (x .right) (y .right) (sides-lt x hx .1) (sides-lt y hy .1)
       (sym (right-bytes (x .left) (x .right)) ∙ ap (drop 8) e ∙ right-bytes (y .left) (y .right)) in
       let s : x .vertices ≡ y .vertices =
-      mem-ext 64 (x .vertices) (y .vertices) (a .vertices-lt) (b .vertices-lt)
-      (λ p _. a .either p ∙ ap₂ (λ (i j : ℕ). mem p i || mem p j) l r ∙ sym (b .either p)) in
-      ap₂ (λ (i j : ℕ). record { vertices = x .vertices; left = i; right = j }) l r
-      ∙ ap (λ (i : ℕ). record { vertices = i; left = y .left; right = y .right }) s
+      set-ext (x .vertices) (y .vertices) (λ p.
+      hx .sides .split .either p ∙ ap₂ (λ (i j : ℕ). mem p i || mem p j) l r ∙ sym (hy .sides .split .either p)) in
+      λ i. record { vertices = s i; left = l i; right = r i }
+    where
+      sides-lt : (x : Item) → Listed g k x → (x .left < 2 ^ 64) × (x .right < 2 ^ 64)
+      sides-lt x h =
+          subst (λ (z : Item). (z .left < 2 ^ 64) × (z .right < 2 ^ 64)) (listed-is g so k x h)
+          (left-lt g (x .vertices), right-lt g (x .vertices))

@@ -149,7 +149,8 @@ module _ (m : Bookmark) (buffer : List ℕ) where
               (λ i. record { outcome = Accepted; count = sym grown i; next = sym (next-snoc m met x) i; end = Finished })
               ∙ sym (fitting-answer (met ++ x ∷ []) room);
           wrote =
-              laid-end (laid-piece (recordOf x) [] last 16 laid wide (is ∙ ap (λ (k : ℕ). recordOf x ++ drop k (take (length out - at) (drop at out))) wide))
+              laid-end (laid-piece (recordOf x) [] last 16 laid wide
+              (is ∙ ap (λ (k : ℕ). recordOf x ++ drop k (take (length out - at) (drop at out))) wide))
               ∙ ap (λ (k : ℕ). records recordOf (met ++ x ∷ []) ++ drop k buffer) long-records
               ∙ sym (fitting-filled (met ++ x ∷ []) room);
         }

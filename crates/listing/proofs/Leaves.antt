@@ -1,7 +1,7 @@
 -- A node with nothing undecided stands for one set at the most; the root stands for all groups. Assumes nothing.
 use Prim.Native.Nat.{ℕ, _^_, _≤_, _<_}
-use native.Mathlib.Omega.{arith}
 use native.Mathlib.Nat.{lt-of-lt-of-le}
+use native.Mathlib.Omega.{arith}
 use native.Mathlib.Decide.{ℕ-discrete}
 use mathlib.Core.Path.{_≡_, refl, sym, ap, ap₂, _∙_, subst}
 use mathlib.Core.Logic.{_⊎_, inl, inr}
@@ -12,8 +12,8 @@ use lib.Bits.{bitOr}
 use borrow.Author.Tests.{ltb-true, lt-ltb, le-ltb, eqb-true, eq-eqb, ne-eqb}
 use Rattle.vertex_set.specs.Lists.{Sorted}
 use Rattle.vertex_set.specs.Sets.{mem, Subset, insert, size, lowest}
-use Rattle.vertex_set.proofs.Booleans.{clash, refute, iff, and-intro, and-left, and-right, fails-left, fails-right, or-left, or-right, or-cases}
-use Rattle.vertex_set.proofs.Membership.{mem-none, mem-or, set-ext, union-left, union-right, union-cases}
+use Rattle.vertex_set.proofs.Booleans.{clash, refute, iff, and-intro, and-left, and-right, fails-left, fails-right, or-left, or-cases}
+use Rattle.vertex_set.proofs.Membership.{mem-none, none-in, mem-or, union-left, union-right, union-cases, set-ext}
 use Rattle.vertex_set.proofs.Collections.{insert-in}
 use Rattle.vertex_set.proofs.LowestVertex.{lowest-is, lowest-in}
 use Rattle.signed_graph.specs.declared.SignedGraph.{SignedGraph}
@@ -27,37 +27,35 @@ use Rattle.clique.proofs.Extension.{Joins, extends-joins}
 use Rattle.listing.specs.declared.Side.{Side}
 use Rattle.listing.specs.declared.Node.{Node}
 use Rattle.listing.specs.Listing.{Item, Listed, comesBefore}
-use Rattle.listing.specs.Nodes.{chosen, undecided, Half, Stage, untouched, led, Valid, Between, Below, itemsBelow, groupAt, leafItem, rootOf}
-use Rattle.listing.proofs.Listing.{listed-enough}
+use Rattle.listing.specs.Nodes.{chosen, undecided, excluded, rootOf, Half, Stage, untouched, led, Valid, Between, Below, itemsBelow, leafItem, groupAt}
+use Rattle.listing.proofs.Listing.{listed-enough, listed-left, listed-right}
 use Rattle.listing.proofs.Below.{below-is, below-agrees}
 use Rattle.listing.proofs.Prunes.{dominated-left, dominated-right}
 
 -- ---- the test, by its parts
 
 module _ (k : ℕ) (d : Node) where
-  abbrev c1 : Bool
-  c1 = ltb 0 (chosen d)
+  abbrev some : Bool
+  some = ltb 0 (chosen d)
 
-  abbrev c2 : Bool
-  c2 = eqb (bitOr (d .left .excluded) (d .right .excluded)) 0
+  abbrev alone : Bool
+  alone = eqb (excluded d) 0
 
-  abbrev c3 : Bool
-  c3 = floor k (size (d .left .chosen)) (size (d .right .chosen))
+  abbrev large : Bool
+  large = floor k (size (d .left .chosen)) (size (d .right .chosen))
 
   pub not-empty : chosen d ≡ 0 → groupAt k d ≡ false
   unfolding groupAt
-  not-empty e = fails-left (c1 && c2) c3 (fails-left c1 c2 (le-ltb 0 (chosen d) (omega arith)))
+  not-empty e = fails-left (some && alone) large (fails-left some alone (le-ltb 0 (chosen d) (omega arith)))
 
-  pub not-extended : (bitOr (d .left .excluded) (d .right .excluded) ≡ 0 → ⊥) → groupAt k d ≡ false
+  pub not-extended : (excluded d ≡ 0 → ⊥) → groupAt k d ≡ false
   unfolding groupAt
-  not-extended e = fails-left (c1 && c2) c3 (fails-right c1 c2 (ne-eqb (bitOr (d .left .excluded) (d .right .excluded)) 0 e))
+  not-extended e = fails-left (some && alone) large (fails-right some alone (ne-eqb (excluded d) 0 e))
 
-  pub large-group : (chosen d ≡ 0 → ⊥) → bitOr (d .left .excluded) (d .right .excluded) ≡ 0
-      → groupAt k d ≡ floor k (size (d .left .chosen)) (size (d .right .chosen))
+  pub large-group : (chosen d ≡ 0 → ⊥) → excluded d ≡ 0 → groupAt k d ≡ floor k (size (d .left .chosen)) (size (d .right .chosen))
   unfolding groupAt
   large-group e f =
-      ap (λ (b : Bool). b && c3)
-      (and-intro c1 c2 (lt-ltb 0 (chosen d) (omega arith)) (eq-eqb (bitOr (d .left .excluded) (d .right .excluded)) 0 f))
+      ap (λ (b : Bool). b && large) (and-intro some alone (lt-ltb 0 (chosen d) (omega arith)) (eq-eqb (excluded d) 0 f))
 
 module _ (g : SignedGraph) (so : Sound g) (k : ℕ) (d : Node) (h : Valid g d) (done : undecided d ≡ 0) where
   -- ---- nothing is undecided
@@ -74,11 +72,12 @@ module _ (g : SignedGraph) (so : Sound g) (k : ℕ) (d : Node) (h : Valid g d) (
   side-is : (side : Side) (s : ℕ) → Between side s → ((p : ℕ) → mem p (side .candidates) ≡ true → ⊥) → s ≡ side .chosen
   side-is side s b none =
       set-ext s (side .chosen) (λ p. iff (mem p s) (mem p (side .chosen))
-      (λ m. union-cases (mem p (side .chosen) ≡ true) p (side .chosen) (side .candidates) (b .only p m) (λ x. x) (λ x. absurd (none p x)))
+      (λ m. union-cases (mem p (side .chosen) ≡ true) p (side .chosen) (side .candidates) (b .only p m)
+      (λ x. x) (λ x. absurd (none p x)))
       (b .holds p))
 
   -- a group below is the chosen set
-  pub leaf-is : (x : Item) → Listed g k x → Below d x → x ≡ leafItem d
+  leaf-is : (x : Item) → Listed g k x → Below d x → x ≡ leafItem d
   leaf-is x lx b =
       let v : x .vertices ≡ chosen d = set-ext (x .vertices) (chosen d) (λ p. below-agrees g so k d h x lx b p (gone p)) in
       let l : x .left ≡ d .left .chosen = side-is (d .left) (x .left) (b .left) (λ p m. no-left p m) in
@@ -86,11 +85,10 @@ module _ (g : SignedGraph) (so : Sound g) (k : ℕ) (d : Node) (h : Valid g d) (
       λ i. record { vertices = v i; left = l i; right = r i }
 
   leaf-below : Below d (leafItem d)
-  leaf-below =
-      record {
-        left = record { holds = λ p m. m; only = λ p m. union-left p (d .left .chosen) (d .left .candidates) m };
-        right = record { holds = λ p m. m; only = λ p m. union-left p (d .right .chosen) (d .right .candidates) m };
-      }
+  leaf-below = record { left = own (d .left); right = own (d .right) }
+    where
+      own : (side : Side) → Between side (side .chosen)
+      own side = record { holds = λ p m. m; only = λ p m. union-left p (side .chosen) (side .candidates) m }
 
   -- ---- the chosen set
 
@@ -105,7 +103,8 @@ module _ (g : SignedGraph) (so : Sound g) (k : ℕ) (d : Node) (h : Valid g d) (
   chosen-split =
       record {
         either = λ p. mem-or p (d .left .chosen) (d .right .chosen);
-        one = λ p m. refute (mem p (d .right .chosen)) (λ r. clash (negativeEdge g p p) (h .parts .across p p m r) (so .negatives .loopless p));
+        one = λ p m. refute (mem p (d .right .chosen)) (λ r.
+            clash (negativeEdge g p p) (h .parts .across p p m r) (so .negatives .loopless p));
         inside-l = h .parts .inside-l;
         inside-r = h .parts .inside-r;
         across = h .parts .across;
@@ -130,34 +129,37 @@ module _ (g : SignedGraph) (so : Sound g) (k : ℕ) (d : Node) (h : Valid g d) (
           less p q = omega arith
 
   -- where nothing that was left out fits, no vertex extends the chosen set
-  module _ (pos : 0 < chosen d) (none : bitOr (d .left .excluded) (d .right .excluded) ≡ 0) where
-    no-fit : (near : Side) (far : ℕ) → Half g near far → ((p : ℕ) → mem p (near .candidates) ≡ true → ⊥) → ((p : ℕ) → mem p (near .excluded) ≡ true → ⊥)
+  module _ (pos : 0 < chosen d) (none : excluded d ≡ 0) where
+    no-join : (near : Side) (far : ℕ) → Half g near far → ((p : ℕ) → mem p (near .candidates) ≡ true → ⊥)
+        → ((p : ℕ) → mem p (near .excluded) ≡ true → mem p (excluded d) ≡ true)
         → (p : ℕ) → mem p (vertices g) ≡ true → Joins g p (near .chosen) far → ⊥
-    no-fit near far half a b p u j =
-        or-cases ⊥ (mem p (near .candidates)) (mem p (near .excluded)) (half .every p (record { usable = u; same = j .inside; cross = j .across })) (a p) (b p)
-
-    out : (p : ℕ) → mem p (bitOr (d .left .excluded) (d .right .excluded)) ≡ true → ⊥
-    out p m = clash (mem p 0) (ap (mem p) (sym none) ∙ m) (mem-none p)
+    no-join near far half none-left out p u j =
+        or-cases ⊥ (mem p (near .candidates)) (mem p (near .excluded))
+        (half .every p (record { usable = u; same = j .inside; cross = j .across }))
+        (none-left p) (λ m. none-in p (ap (mem p) (sym none) ∙ out p m))
 
     maximal : (t : ℕ) → Balanced g t → Subset (chosen d) t → t ≡ chosen d
     maximal =
         single-maximal g so (chosen d) (split-balanced g so chosen-usable chosen-split) (λ p off b.
-        fit p (b .usable p (insert-in p (chosen d)))
+        joins p (b .usable p (insert-in p (chosen d)))
         (extends-joins g so (chosen d) p off pos chosen-64 chosen-sides (words-balanced g so (insert p (chosen d)) b)))
       where
-        fit : (p : ℕ) → mem p (vertices g) ≡ true → Joins g p (d .left .chosen) (d .right .chosen) ⊎ Joins g p (d .right .chosen) (d .left .chosen) → ⊥
-        fit p u (inl j) =
-            no-fit (d .left) (d .right .chosen) (h .left) (λ q m. no-left q m) (λ q m. out q (union-left q (d .left .excluded) (d .right .excluded) m)) p u j
-        fit p u (inr j) =
-            no-fit (d .right) (d .left .chosen) (h .right) (λ q m. no-right q m) (λ q m. out q (union-right q (d .left .excluded) (d .right .excluded) m)) p u j
+        joins : (p : ℕ) → mem p (vertices g) ≡ true
+            → Joins g p (d .left .chosen) (d .right .chosen) ⊎ Joins g p (d .right .chosen) (d .left .chosen) → ⊥
+        joins p u (inl j) =
+            no-join (d .left) (d .right .chosen) (h .left) (λ q m. no-left q m)
+            (λ q. union-left q (d .left .excluded) (d .right .excluded)) p u j
+        joins p u (inr j) =
+            no-join (d .right) (d .left .chosen) (h .right) (λ q m. no-right q m)
+            (λ q. union-right q (d .left .excluded) (d .right .excluded)) p u j
 
   -- ---- the test of the leaf
 
   pub leaf-group : groupAt k d ≡ true → Listed g k (leafItem d)
   unfolding groupAt
   leaf-group e =
-      let e12 : (c1 k d && c2 k d) ≡ true = and-left (c1 k d && c2 k d) (c3 k d) e in
-      let pos : 0 < chosen d = ltb-true 0 (chosen d) (and-left (c1 k d) (c2 k d) e12) in
+      let both : (some k d && alone k d) ≡ true = and-left (some k d && alone k d) (large k d) e in
+      let pos : 0 < chosen d = ltb-true 0 (chosen d) (and-left (some k d) (alone k d) both) in
       record {
         group = record {
           nonempty = pos;
@@ -165,8 +167,8 @@ module _ (g : SignedGraph) (so : Sound g) (k : ℕ) (d : Node) (h : Valid g d) (
           left-side = d .left .chosen;
           right-side = d .right .chosen;
           sides = chosen-sides;
-          enough = and-right (c1 k d && c2 k d) (c3 k d) e;
-          maximal = maximal pos (eqb-true (bitOr (d .left .excluded) (d .right .excluded)) 0 (and-right (c1 k d) (c2 k d) e12));
+          enough = and-right (some k d && alone k d) (large k d) e;
+          maximal = maximal pos (eqb-true (excluded d) 0 (and-right (some k d) (alone k d) both));
         };
         sides = chosen-sides;
       }
@@ -174,21 +176,25 @@ module _ (g : SignedGraph) (so : Sound g) (k : ℕ) (d : Node) (h : Valid g d) (
   group-leaf : Listed g k (leafItem d) → groupAt k d ≡ true
   unfolding groupAt
   group-leaf lx =
-      and-intro (c1 k d && c2 k d) (c3 k d) (and-intro (c1 k d) (c2 k d) (lt-ltb 0 (chosen d) (lx .group .nonempty)) (go (ℕ-discrete X 0))) (listed-enough g so k (leafItem d) lx)
+      and-intro (some k d && alone k d) (large k d)
+      (and-intro (some k d) (alone k d) (lt-ltb 0 (chosen d) (lx .group .nonempty)) (go (ℕ-discrete (excluded d) 0)))
+      (listed-enough g so k (leafItem d) lx)
     where
-      X : ℕ
-      X = bitOr (d .left .excluded) (d .right .excluded)
-
-      X-64 : X < 2 ^ 64
-      X-64 = usable-64 g so X (λ p m. union-cases (mem p (vertices g) ≡ true) p (d .left .excluded) (d .right .excluded) m
+      excluded-64 : excluded d < 2 ^ 64
+      excluded-64 =
+          usable-64 g so (excluded d) (λ p m.
+          union-cases (mem p (vertices g) ≡ true) p (d .left .excluded) (d .right .excluded) m
           (λ x. h .left .out p x .usable) (λ x. h .right .out p x .usable))
 
-      go : Dec (X ≡ 0) → eqb X 0 ≡ true
-      go (yes e) = eq-eqb X 0 e
+      go : Dec (excluded d ≡ 0) → eqb (excluded d) 0 ≡ true
+      go (yes e) = eq-eqb (excluded d) 0 e
       go (no e) =
-          absurd (union-cases ⊥ (lowest X) (d .left .excluded) (d .right .excluded) (lowest-in X (omega arith) X-64)
-          (λ m. dominated-left g so k d h (lowest X) (leafItem d) lx leaf-below m (record { same = λ q n _. no-left q n; cross = λ q n. no-right q n }))
-          (λ m. dominated-right g so k d h (lowest X) (leafItem d) lx leaf-below m (record { same = λ q n _. no-right q n; cross = λ q n. no-left q n })))
+          let u : ℕ = lowest (excluded d) in
+          absurd (union-cases ⊥ u (d .left .excluded) (d .right .excluded) (lowest-in (excluded d) (omega arith) excluded-64)
+          (λ m. dominated-left g so k d h u (leafItem d) lx leaf-below m
+          (record { same = λ q n _. no-left q n; cross = λ q n. no-right q n }))
+          (λ m. dominated-right g so k d h u (leafItem d) lx leaf-below m
+          (record { same = λ q n _. no-right q n; cross = λ q n. no-left q n })))
 
   -- ---- the groups below the leaf, of a sorted list of groups
 
@@ -196,7 +202,8 @@ module _ (g : SignedGraph) (so : Sound g) (k : ℕ) (d : Node) (h : Valid g d) (
     pub leaf-one : List·Memᴰ (leafItem d) l → itemsBelow d l ≡ leafItem d ∷ []
     leaf-one m =
         below-is d l sorted (leafItem d ∷ []) (tt, tt)
-        (λ x n. let e : x ≡ leafItem d = List·Memᴰ·eq-of-singleton n in (subst (λ (y : Item). List·Memᴰ y l) (sym e) m, subst (Below d) (sym e) leaf-below))
+        (λ x n. let e : leafItem d ≡ x = sym (List·Memᴰ·eq-of-singleton n) in
+        (subst (λ (y : Item). List·Memᴰ y l) e m, subst (Below d) e leaf-below))
         (λ x n b. List·Memᴰ·head (leaf-is x (listed x n) b))
 
     pub leaf-none : (List·Memᴰ (leafItem d) l → ⊥) → itemsBelow d l ≡ []
@@ -216,8 +223,8 @@ module _ (g : SignedGraph) where
   root-half : Half g rootSide 0
   root-half =
       record {
-        candidate = λ p m. record { usable = m; same = λ q n. clash (mem q 0) n (mem-none q); cross = λ q n. clash (mem q 0) n (mem-none q) };
-        out = λ p m. clash (mem p 0) m (mem-none p);
+        candidate = λ p m. record { usable = m; same = λ q n. none-in q n; cross = λ q n. none-in q n };
+        out = λ p m. none-in p m;
         every = λ p f. or-left (mem p (vertices g)) (mem p 0) (f .usable);
         apart = λ p m. mem-none p;
       }
@@ -226,28 +233,23 @@ module _ (g : SignedGraph) where
   root-valid =
       record {
         parts = record {
-          usable-l = λ p m. clash (mem p 0) m (mem-none p);
-          usable-r = λ p m. clash (mem p 0) m (mem-none p);
-          inside-l = λ p q _ m _. clash (mem p 0) m (mem-none p);
-          inside-r = λ p q _ m _. clash (mem p 0) m (mem-none p);
-          across = λ p q m _. clash (mem p 0) m (mem-none p);
+          usable-l = λ p m. none-in p m;
+          usable-r = λ p m. none-in p m;
+          inside-l = λ p q _ m _. none-in p m;
+          inside-r = λ p q _ m _. none-in p m;
+          across = λ p q m _. none-in p m;
         };
         left = root-half;
         right = root-half;
         stage = untouched refl refl refl;
       }
 
-  module _ (k : ℕ) where
-    root-between : (x : Item) → Listed g k x → (s : ℕ) → ((p : ℕ) → mem p s ≡ true → mem p (x .vertices) ≡ true) → Between rootSide s
-    root-between x lx s sub =
-        record {
-          holds = λ p m. clash (mem p 0) m (mem-none p);
-          only = λ p m. union-right p 0 (vertices g) (lx .group .balanced .usable p (sub p m));
-        }
-
-    pub root-below : (x : Item) → Listed g k x → Below (rootOf (vertices g)) x
-    root-below x lx =
-        record {
-          left = root-between x lx (x .left) (λ p m. lx .sides .split .either p ∙ or-left (mem p (x .left)) (mem p (x .right)) m);
-          right = root-between x lx (x .right) (λ p m. lx .sides .split .either p ∙ or-right (mem p (x .left)) (mem p (x .right)) m);
-        }
+  pub root-below : (k : ℕ) (x : Item) → Listed g k x → Below (rootOf (vertices g)) x
+  root-below k x lx = record { left = between (x .left) (listed-left lx); right = between (x .right) (listed-right lx) }
+    where
+      between : (s : ℕ) → Subset s (x .vertices) → Between rootSide s
+      between s sub =
+          record {
+            holds = λ p m. none-in p m;
+            only = λ p m. union-right p 0 (vertices g) (lx .group .balanced .usable p (sub p m));
+          }

@@ -1,98 +1,141 @@
 -- A node stays valid where a vertex goes in and where it is left out. Assumes nothing.
-use Prim.Native.Nat.{ℕ, _-_, _^_, _≤_, _<_}
+use Prim.Native.Nat.{ℕ, _^_, _≤_, _<_}
+use native.Mathlib.Nat.{lt-of-le-of-lt}
 use native.Mathlib.Decide.{ℕ-discrete}
-use mathlib.Core.Path.{_≡_, refl, sym, ap, ap₂, _∙_}
+use mathlib.Core.Path.{_≡_, refl, sym, ap, _∙_}
 use mathlib.Core.Logic.{_≢_}
-use mathlib.Core.Bool.{Bool, true, false, not, _&&_, _||_}
+use mathlib.Core.Bool.{Bool, true, false, not, _||_}
 use lib.Dec.{eqb}
-use lib.ListN.{getD}
-use lib.Bits.{bitAnd, bitOr}
-use lib.Pow.{pow-lt}
-use borrow.Author.Tests.{eqb-true, eq-eqb, ne-eqb}
-use Rattle.vertex_set.specs.Sets.{mem, single}
-use Rattle.vertex_set.proofs.Booleans.{clash, refute, and-intro, and-left, and-right, fails-right, or-left, or-right, or-cases}
-use Rattle.vertex_set.proofs.Membership.{mem-none, mem-and, mem-not, mem-minus, union-left, union-right, union-cases}
-use Rattle.vertex_set.proofs.Collections.{single-pow, mem-pow, insert-in, insert-cases}
+use lib.Bits.{bitAnd, bitOr, and-le-l}
+use borrow.Author.Tests.{eqb-true, eq-eqb}
+use Rattle.vertex_set.specs.Sets.{mem, Subset, single}
+use Rattle.vertex_set.proofs.Booleans.{clash, refute, and-intro, or-left, or-right, or-cases}
+use Rattle.vertex_set.proofs.Membership.{none-in, mem-not, mem-minus, meet-in, meet-left, meet-right, union-left, union-right, union-cases, union-other, union-mono}
+use Rattle.vertex_set.proofs.Collections.{mem-pow, collect-lt, mem-single, single-pow}
 use Rattle.signed_graph.specs.declared.SignedGraph.{SignedGraph}
 use Rattle.signed_graph.specs.Graphs.{positiveEdge, negativeEdge, vertices}
 use Rattle.signed_graph.proofs.Soundness.{Sound}
 use Rattle.clique.proofs.Balance.{usable-64}
 use Rattle.listing.specs.declared.Side.{Side}
 use Rattle.listing.specs.declared.Node.{Node}
-use Rattle.listing.specs.Nodes.{chosen, undecided, whole, others, narrowed, joined, passedOver, flip, putLeft, putIn, withVertex, leaveOut, Fits, Half, Parts, Stage, untouched, led, Valid}
+use Rattle.listing.specs.Nodes.{reach, chosen, undecided, whole, others, narrowed, joined, passedOver, putLeft, putRight, putIn, leaveOut, positives, negatives, withVertex, Fits, Half, Parts, Stage, untouched, led, Valid}
 
 -- ---- sets with one vertex more or less
 
 module _ (v : ℕ) (small : v < 64) where
+  single-lt : single v < 2 ^ 64
+  unfolding single
+  single-lt = collect-lt (λ q. eqb q v) 64
+
+  single-in : mem v (single v) ≡ true
+  single-in = mem-single v v small ∙ eq-eqb v v refl
+
+  pub single-is : (p : ℕ) → mem p (single v) ≡ true → p ≡ v
+  single-is p m = eqb-true p v (sym (mem-pow v p) ∙ ap (mem p) (sym (single-pow v small)) ∙ m)
+
   pub joined-in : (s : ℕ) → mem v (bitOr s (single v)) ≡ true
-  joined-in s = ap (λ (b : ℕ). mem v (bitOr s b)) (single-pow v small) ∙ insert-in v s
+  joined-in s = union-right v s (single v) single-in
 
   pub joined-cases : (A : Type 0) (p s : ℕ) → mem p (bitOr s (single v)) ≡ true → (mem p s ≡ true → A) → (p ≡ v → A) → A
-  joined-cases A p s m = insert-cases A p v s (ap (λ (b : ℕ). mem p (bitOr s b)) (sym (single-pow v small)) ∙ m)
-
-  pub mem-others : (p s : ℕ) → s < 2 ^ 64 → mem p (bitAnd s (others v)) ≡ (mem p s && not (eqb p v))
-  mem-others p s h =
-      ap (λ (b : ℕ). mem p (bitAnd s (2 ^ 64 - 1 - b))) (single-pow v small) ∙ mem-minus 64 p s (2 ^ v) h (pow-lt small)
-      ∙ ap (λ (b : Bool). mem p s && not b) (mem-pow v p)
+  joined-cases A p s m f h = union-cases A p s (single v) m f (λ i. h (single-is p i))
 
   pub others-keep : (p s : ℕ) → s < 2 ^ 64 → mem p s ≡ true → p ≢ v → mem p (bitAnd s (others v)) ≡ true
-  others-keep p s h m d = mem-others p s h ∙ and-intro (mem p s) (not (eqb p v)) m (ap not (ne-eqb p v d))
+  others-keep p s h m d =
+      mem-minus 64 p s (single v) h single-lt
+      ∙ and-intro (mem p s) (not (mem p (single v))) m (ap not (refute (mem p (single v)) (λ i. d (single-is p i))))
 
   pub others-lack : (s : ℕ) → mem v (bitAnd s (others v)) ≡ false
   others-lack s =
-      mem-and v s (others v)
-      ∙ fails-right (mem v s) (mem v (others v))
-      (ap (λ (b : ℕ). mem v (2 ^ 64 - 1 - b)) (single-pow v small) ∙ mem-not 64 v (2 ^ v) small (pow-lt small)
-      ∙ ap not (mem-pow v v ∙ eq-eqb v v refl))
+      refute (mem v (bitAnd s (others v))) (λ m.
+      clash (mem v (others v)) (meet-right v s (others v) m) (mem-not 64 v (single v) small single-lt ∙ ap not single-in))
 
-pub both-in : (p a b : ℕ) → mem p a ≡ true → mem p b ≡ true → mem p (bitAnd a b) ≡ true
-both-in p a b x y = mem-and p a b ∙ and-intro (mem p a) (mem p b) x y
+-- ---- a side once v is chosen, or left out
 
-pub in-first : (p a b : ℕ) → mem p (bitAnd a b) ≡ true → mem p a ≡ true
-in-first p a b m = and-left (mem p a) (mem p b) (sym (mem-and p a b) ∙ m)
+module _ (v : ℕ) (s : Side) where
+  pub narrowed-from : (row : ℕ) → Subset (narrowed s v row .candidates) (s .candidates)
+  narrowed-from row p m = meet-left p (s .candidates) row (meet-left p (bitAnd (s .candidates) row) (others v) m)
 
-pub in-second : (p a b : ℕ) → mem p (bitAnd a b) ≡ true → mem p b ≡ true
-in-second p a b m = and-right (mem p a) (mem p b) (sym (mem-and p a b) ∙ m)
+  narrowed-row : (row : ℕ) → Subset (narrowed s v row .candidates) row
+  narrowed-row row p m = meet-right p (s .candidates) row (meet-left p (bitAnd (s .candidates) row) (others v) m)
 
--- by which of its four sets a vertex is of a node
-pub whole-cases : (A : Type 0) (d : Node) (p : ℕ) → mem p (whole d) ≡ true → (mem p (d .left .chosen) ≡ true → A) → (mem p (d .right .chosen) ≡ true → A)
-    → (mem p (d .left .candidates) ≡ true → A) → (mem p (d .right .candidates) ≡ true → A) → A
-whole-cases A d p m a b c e =
-    union-cases A p (chosen d) (undecided d) m
-    (λ x. union-cases A p (d .left .chosen) (d .right .chosen) x a b)
-    (λ x. union-cases A p (d .left .candidates) (d .right .candidates) x c e)
+  pub narrowed-in : v < 64 → s .candidates < 2 ^ 64 → (row p : ℕ) → mem p (s .candidates) ≡ true → mem p row ≡ true → p ≢ v
+      → mem p (narrowed s v row .candidates) ≡ true
+  narrowed-in small fits row p m i d =
+      others-keep v small p (bitAnd (s .candidates) row) (lt-of-le-of-lt (and-le-l (s .candidates) row) fits)
+      (meet-in p (s .candidates) row m i) d
+
+  -- it gets no more vertices than it might before
+  pub near-reach : v < 64 → mem v (s .candidates) ≡ true → (row : ℕ) → Subset (reach (joined (narrowed s v row) v)) (reach s)
+  near-reach small i row p m =
+      union-cases (mem p (reach s) ≡ true) p (bitOr (s .chosen) (single v)) (narrowed s v row .candidates) m
+      (λ x. joined-cases v small (mem p (reach s) ≡ true) p (s .chosen) x (union-left p (s .chosen) (s .candidates))
+      (λ e. ap (λ (z : ℕ). mem z (reach s)) e ∙ union-right v (s .chosen) (s .candidates) i))
+      (λ x. union-right p (s .chosen) (s .candidates) (narrowed-from row p x))
+
+  pub far-reach : (row : ℕ) → Subset (reach (narrowed s v row)) (reach s)
+  far-reach row =
+      union-mono (s .chosen) (narrowed s v row .candidates) (s .chosen) (s .candidates) (λ p m. m) (narrowed-from row)
+
+  pub out-reach : Subset (reach (passedOver s v)) (reach s)
+  out-reach =
+      union-mono (s .chosen) (passedOver s v .candidates) (s .chosen) (s .candidates) (λ p m. m)
+      (λ p. meet-left p (s .candidates) (others v))
+
+-- ---- the vertices of a node
 
 module _ (d : Node) (p : ℕ) where
-  pub of-left : mem p (d .left .chosen) ≡ true → mem p (whole d) ≡ true
-  of-left m = union-left p (chosen d) (undecided d) (union-left p (d .left .chosen) (d .right .chosen) m)
+  pub whole-left : mem p (reach (d .left)) ≡ true → mem p (whole d) ≡ true
+  whole-left =
+      union-mono (d .left .chosen) (d .left .candidates) (chosen d) (undecided d)
+      (λ q. union-left q (d .left .chosen) (d .right .chosen)) (λ q. union-left q (d .left .candidates) (d .right .candidates)) p
 
-  pub of-right : mem p (d .right .chosen) ≡ true → mem p (whole d) ≡ true
-  of-right m = union-left p (chosen d) (undecided d) (union-right p (d .left .chosen) (d .right .chosen) m)
+  pub whole-right : mem p (reach (d .right)) ≡ true → mem p (whole d) ≡ true
+  whole-right =
+      union-mono (d .right .chosen) (d .right .candidates) (chosen d) (undecided d)
+      (λ q. union-right q (d .left .chosen) (d .right .chosen)) (λ q. union-right q (d .left .candidates) (d .right .candidates)) p
 
-  pub of-undecided : mem p (undecided d) ≡ true → mem p (whole d) ≡ true
-  of-undecided m = union-right p (chosen d) (undecided d) m
+  whole-cases : (A : Type 0) → mem p (whole d) ≡ true → (mem p (reach (d .left)) ≡ true → A)
+      → (mem p (reach (d .right)) ≡ true → A) → A
+  whole-cases A m l r =
+      union-cases A p (chosen d) (undecided d) m
+      (λ x. union-cases A p (d .left .chosen) (d .right .chosen) x
+      (λ y. l (union-left p (d .left .chosen) (d .left .candidates) y))
+      (λ y. r (union-left p (d .right .chosen) (d .right .candidates) y)))
+      (λ x. union-cases A p (d .left .candidates) (d .right .candidates) x
+      (λ y. l (union-right p (d .left .chosen) (d .left .candidates) y))
+      (λ y. r (union-right p (d .right .chosen) (d .right .candidates) y)))
 
--- the rows of v
-abbrev pub positives : SignedGraph → ℕ → ℕ
-positives g v = getD (g .positive) v 0
+-- where nothing is chosen, a side may only get its candidates
+fresh : (s : Side) → s .chosen ≡ 0 → Subset (reach s) (s .candidates)
+fresh s z p m =
+    union-cases (mem p (s .candidates) ≡ true) p (s .chosen) (s .candidates) m (λ x. none-in p (ap (mem p) (sym z) ∙ x)) (λ x. x)
 
-abbrev pub negatives : SignedGraph → ℕ → ℕ
-negatives g v = getD (g .negative) v 0
+-- what holds of the node with v on the left and of the one with v on the right, holds of the one with v where it may go
+pub put-cases : (P : Node → Type 0) (d : Node) (v positive negative : ℕ)
+    → (mem v (d .left .candidates) ≡ true → P (putLeft d v positive negative))
+    → (mem v (d .left .candidates) ≡ false → P (putRight d v positive negative)) → P (putIn d v positive negative)
+unfolding putIn
+put-cases P d v positive negative l r = go (mem v (d .left .candidates)) refl
+  where
+    go : (b : Bool) → mem v (d .left .candidates) ≡ b
+        → P (elim b [ true ↦ putLeft d v positive negative | false ↦ putRight d v positive negative ])
+    go true e = l e
+    go false e = r e
 
 module _ (g : SignedGraph) (so : Sound g) where
-  -- ---- sides
-
   pub candidates-64 : (s : Side) (far : ℕ) → Half g s far → s .candidates < 2 ^ 64
   candidates-64 s far h = usable-64 g so (s .candidates) (λ p m. h .candidate p m .usable)
 
-  -- what fits is not there yet
+  -- what fits is on no side yet
   pub fits-new : (near far p : ℕ) → Fits g near far p → mem p near ≡ false
   fits-new near far p f = refute (mem p near) (λ m. clash (positiveEdge g p p) (f .same p m) (so .positives .loopless p))
 
   pub fits-off : (near far p : ℕ) → Fits g near far p → mem p far ≡ false
   fits-off near far p f = refute (mem p far) (λ m. clash (negativeEdge g p p) (f .cross p m) (so .negatives .loopless p))
 
-  pub parts-flip : (l r : ℕ) → Parts g l r → Parts g r l
+  -- ---- the sides stay those of a balanced set
+
+  parts-flip : (l r : ℕ) → Parts g l r → Parts g r l
   parts-flip l r h =
       record {
         usable-l = h .usable-r;
@@ -103,11 +146,12 @@ module _ (g : SignedGraph) (so : Sound g) where
       }
 
   module _ (v : ℕ) (small : v < 64) where
-    pub parts-join : (l r : ℕ) → Parts g l r → Fits g l r v → Parts g (bitOr l (single v)) r
+    parts-join : (l r : ℕ) → Parts g l r → Fits g l r v → Parts g (bitOr l (single v)) r
     parts-join l r h f =
         record {
           usable-l = λ p m.
-              joined-cases v small (mem p (vertices g) ≡ true) p l m (h .usable-l p) (λ e. ap (λ (z : ℕ). mem z (vertices g)) e ∙ f .usable);
+              joined-cases v small (mem p (vertices g) ≡ true) p l m
+              (h .usable-l p) (λ e. ap (λ (z : ℕ). mem z (vertices g)) e ∙ f .usable);
           usable-r = h .usable-r;
           inside-l = λ p q d x y.
               joined-cases v small (positiveEdge g p q ≡ true) p l x
@@ -123,41 +167,42 @@ module _ (g : SignedGraph) (so : Sound g) where
               (λ e. ap (λ (z : ℕ). negativeEdge g z q) e ∙ so .negatives .symmetric v q ∙ f .cross q y);
         }
 
-    -- a side once v is chosen: what could join it is what could before and is in the row of v
-    narrow : (s : Side) (far near′ far′ row : ℕ) → mem v row ≡ false → Half g s far
+    -- ---- what could join a side
+
+    -- once v is chosen: what could before and is in the row of v
+    half-narrowed : (s : Side) (far near′ far′ row : ℕ) → mem v row ≡ false → Half g s far
         → ((p : ℕ) → Fits g (s .chosen) far p → mem p row ≡ true → Fits g near′ far′ p)
         → ((p : ℕ) → Fits g near′ far′ p → Fits g (s .chosen) far p × (mem p row ≡ true))
-        → Half g (record { chosen = near′; candidates = bitAnd (bitAnd (s .candidates) row) (others v); excluded = bitAnd (s .excluded) row }) far′
-    narrow s far near′ far′ row off h to from =
+        → Half g (record { chosen = near′; candidates = narrowed s v row .candidates; excluded = bitAnd (s .excluded) row }) far′
+    half-narrowed s far near′ far′ row off h to from =
         record {
-          candidate = λ p m.
-              let m′ : mem p (bitAnd (s .candidates) row) ≡ true = in-first p (bitAnd (s .candidates) row) (others v) m in
-              to p (h .candidate p (in-first p (s .candidates) row m′)) (in-second p (s .candidates) row m′);
-          out = λ p m. to p (h .out p (in-first p (s .excluded) row m)) (in-second p (s .excluded) row m);
+          candidate = λ p m. to p (h .candidate p (narrowed-from v s row p m)) (narrowed-row v s row p m);
+          out = λ p m. to p (h .out p (meet-left p (s .excluded) row m)) (meet-right p (s .excluded) row m);
           every = λ p f.
               let w : Fits g (s .chosen) far p × (mem p row ≡ true) = from p f in
-              or-cases ((mem p C || mem p (bitAnd (s .excluded) row)) ≡ true) (mem p (s .candidates)) (mem p (s .excluded)) (h .every p (w .0))
-              (λ x. or-left (mem p C) (mem p (bitAnd (s .excluded) row))
-              (others-keep v small p (bitAnd (s .candidates) row) small-C (both-in p (s .candidates) row x (w .1))
+              or-cases ((mem p C || mem p X) ≡ true) (mem p (s .candidates)) (mem p (s .excluded)) (h .every p (w .0))
+              (λ x. or-left (mem p C) (mem p X) (narrowed-in v s small (candidates-64 s far h) row p x (w .1)
               (λ e. clash (mem p row) (w .1) (ap (λ (z : ℕ). mem z row) e ∙ off))))
-              (λ x. or-right (mem p C) (mem p (bitAnd (s .excluded) row)) (both-in p (s .excluded) row x (w .1)));
+              (λ x. or-right (mem p C) (mem p X) (meet-in p (s .excluded) row x (w .1)));
           apart = λ p m.
-              refute (mem p (bitAnd (s .excluded) row)) (λ x. clash (mem p (s .excluded)) (in-first p (s .excluded) row x)
-              (h .apart p (in-first p (s .candidates) row (in-first p (bitAnd (s .candidates) row) (others v) m))));
+              refute (mem p X) (λ x. clash (mem p (s .excluded)) (meet-left p (s .excluded) row x)
+              (h .apart p (narrowed-from v s row p m)));
         }
       where
         C : ℕ
-        C = bitAnd (bitAnd (s .candidates) row) (others v)
+        C = narrowed s v row .candidates
 
-        small-C : bitAnd (s .candidates) row < 2 ^ 64
-        small-C = usable-64 g so (bitAnd (s .candidates) row) (λ p m. h .candidate p (in-first p (s .candidates) row m) .usable)
+        X : ℕ
+        X = bitAnd (s .excluded) row
 
-    pub half-near : (s : Side) (far : ℕ) → Half g s far → Half g (joined (narrowed s v (positives g v)) v) far
+    half-near : (s : Side) (far : ℕ) → Half g s far → Half g (joined (narrowed s v (positives g v)) v) far
     half-near s far h =
-        narrow s far (bitOr (s .chosen) (single v)) far (positives g v) (so .positives .loopless v) h
+        half-narrowed s far (bitOr (s .chosen) (single v)) far (positives g v) (so .positives .loopless v) h
         (λ p f m. record {
           usable = f .usable;
-          same = λ q i. joined-cases v small (positiveEdge g q p ≡ true) q (s .chosen) i (f .same q) (λ e. ap (λ (z : ℕ). positiveEdge g z p) e ∙ m);
+          same = λ q i.
+              joined-cases v small (positiveEdge g q p ≡ true) q (s .chosen) i
+              (f .same q) (λ e. ap (λ (z : ℕ). positiveEdge g z p) e ∙ m);
           cross = f .cross;
         })
         (λ p f. (
@@ -165,79 +210,97 @@ module _ (g : SignedGraph) (so : Sound g) where
           f .same v (joined-in v small (s .chosen)),
         ))
 
-    pub half-far : (s : Side) (far : ℕ) → Half g s far → Half g (narrowed s v (negatives g v)) (bitOr far (single v))
+    half-far : (s : Side) (far : ℕ) → Half g s far → Half g (narrowed s v (negatives g v)) (bitOr far (single v))
     half-far s far h =
-        narrow s far (s .chosen) (bitOr far (single v)) (negatives g v) (so .negatives .loopless v) h
+        half-narrowed s far (s .chosen) (bitOr far (single v)) (negatives g v) (so .negatives .loopless v) h
         (λ p f m. record {
           usable = f .usable;
           same = f .same;
-          cross = λ q i. joined-cases v small (negativeEdge g q p ≡ true) q far i (f .cross q) (λ e. ap (λ (z : ℕ). negativeEdge g z p) e ∙ m);
+          cross = λ q i.
+              joined-cases v small (negativeEdge g q p ≡ true) q far i
+              (f .cross q) (λ e. ap (λ (z : ℕ). negativeEdge g z p) e ∙ m);
         })
         (λ p f. (
           record { usable = f .usable; same = f .same; cross = λ q i. f .cross q (union-left q far (single v) i) },
           f .cross v (joined-in v small far),
         ))
 
-    pub half-out : (s : Side) (far : ℕ) → Half g s far → Half g (passedOver s v) far
+    -- once v is left out: what could before
+    half-out : (s : Side) (far : ℕ) → Half g s far → Half g (passedOver s v) far
     half-out s far h =
         record {
-          candidate = λ p m. h .candidate p (in-first p (s .candidates) (others v) m);
+          candidate = λ p m. h .candidate p (meet-left p (s .candidates) (others v) m);
           out = λ p m.
-              union-cases (Fits g (s .chosen) far p) p (s .excluded) (bitAnd (s .candidates) (single v)) m (h .out p)
-              (λ x. h .candidate p (in-first p (s .candidates) (single v) x));
+              union-cases (Fits g (s .chosen) far p) p (s .excluded) here m
+              (h .out p) (λ x. h .candidate p (meet-left p (s .candidates) (single v) x));
           every = λ p f.
               or-cases ((mem p C || mem p X) ≡ true) (mem p (s .candidates)) (mem p (s .excluded)) (h .every p f)
               (λ x. stays p x (ℕ-discrete p v))
-              (λ x. or-right (mem p C) (mem p X) (union-left p (s .excluded) (bitAnd (s .candidates) (single v)) x));
-          apart = λ p m. refute (mem p X) (λ x. union-cases ⊥ p (s .excluded) (bitAnd (s .candidates) (single v)) x
-              (λ y. clash (mem p (s .excluded)) y (h .apart p (in-first p (s .candidates) (others v) m)))
+              (λ x. or-right (mem p C) (mem p X) (union-left p (s .excluded) here x));
+          apart = λ p m. refute (mem p X) (λ x. union-cases ⊥ p (s .excluded) here x
+              (λ y. clash (mem p (s .excluded)) y (h .apart p (meet-left p (s .candidates) (others v) m)))
               (λ y. clash (mem v C) (ap (λ (z : ℕ). mem z C) (sym (is-v p y)) ∙ m) (others-lack v small (s .candidates))));
         }
       where
         C : ℕ
         C = bitAnd (s .candidates) (others v)
 
-        X : ℕ
-        X = bitOr (s .excluded) (bitAnd (s .candidates) (single v))
+        here : ℕ
+        here = bitAnd (s .candidates) (single v)
 
-        is-v : (p : ℕ) → mem p (bitAnd (s .candidates) (single v)) ≡ true → p ≡ v
-        is-v p m =
-            eqb-true p v (sym (mem-pow v p) ∙ ap (mem p) (sym (single-pow v small)) ∙ in-second p (s .candidates) (single v) m)
+        X : ℕ
+        X = bitOr (s .excluded) here
+
+        is-v : (p : ℕ) → mem p here ≡ true → p ≡ v
+        is-v p m = single-is v small p (meet-right p (s .candidates) (single v) m)
 
         stays : (p : ℕ) → mem p (s .candidates) ≡ true → Dec (p ≡ v) → (mem p C || mem p X) ≡ true
         stays p x (no e) = or-left (mem p C) (mem p X) (others-keep v small p (s .candidates) (candidates-64 s far h) x e)
         stays p x (yes e) =
-            or-right (mem p C) (mem p X)
-            (union-right p (s .excluded) (bitAnd (s .candidates) (single v))
-            (both-in p (s .candidates) (single v) x (ap₂ mem e (single-pow v small) ∙ mem-pow v v ∙ eq-eqb v v refl)))
+            or-right (mem p C) (mem p X) (union-right p (s .excluded) here
+            (meet-in p (s .candidates) (single v) x (ap (λ (z : ℕ). mem z (single v)) e ∙ single-in v small)))
 
     -- ---- nodes
 
     module _ (d : Node) (h : Valid g d) where
+      abbrev onLeft : Node
+      onLeft = putLeft d v (positives g v) (negatives g v)
+
+      abbrev onRight : Node
+      onRight = putRight d v (positives g v) (negatives g v)
+
+      left-whole : mem v (d .left .candidates) ≡ true → Subset (whole onLeft) (whole d)
+      left-whole i p m =
+          whole-cases onLeft p (mem p (whole d) ≡ true) m
+          (λ x. whole-left d p (near-reach v (d .left) small i (positives g v) p x))
+          (λ x. whole-right d p (far-reach v (d .right) (negatives g v) p x))
+
+      right-whole : mem v (d .right .candidates) ≡ true → Subset (whole onRight) (whole d)
+      right-whole i p m =
+          whole-cases onRight p (mem p (whole d) ≡ true) m
+          (λ x. whole-left d p (far-reach v (d .left) (negatives g v) p x))
+          (λ x. whole-right d p (near-reach v (d .right) small i (positives g v) p x))
+
+      out-whole : Subset (whole (leaveOut d v)) (whole d)
+      out-whole p m =
+          whole-cases (leaveOut d v) p (mem p (whole d) ≡ true) m
+          (λ x. whole-left d p (out-reach v (d .left) p x)) (λ x. whole-right d p (out-reach v (d .right) p x))
+
       -- where nothing is chosen, v is the lowest candidate
       module _ (first : d .left .chosen ≡ 0 → (p : ℕ) → mem p (undecided d) ≡ true → v ≤ p) where
-        into : (p : ℕ) → mem v (d .left .candidates) ≡ true → mem p (whole (putLeft d v (positives g v) (negatives g v))) ≡ true → mem p (whole d) ≡ true
-        into p i m =
-            whole-cases (mem p (whole d) ≡ true) (putLeft d v (positives g v) (negatives g v)) p m
-            (λ x. joined-cases v small (mem p (whole d) ≡ true) p (d .left .chosen) x (of-left d p)
-            (λ e. ap (λ (z : ℕ). mem z (whole d)) e ∙ of-undecided d v (union-left v (d .left .candidates) (d .right .candidates) i)))
-            (of-right d p)
-            (λ x. of-undecided d p (union-left p (d .left .candidates) (d .right .candidates)
-            (in-first p (d .left .candidates) (positives g v) (in-first p (bitAnd (d .left .candidates) (positives g v)) (others v) x))))
-            (λ x. of-undecided d p (union-right p (d .left .candidates) (d .right .candidates)
-            (in-first p (d .right .candidates) (negatives g v) (in-first p (bitAnd (d .right .candidates) (negatives g v)) (others v) x))))
-
-        left-stage : mem v (d .left .candidates) ≡ true → Stage d → Stage (putLeft d v (positives g v) (negatives g v))
+        left-stage : mem v (d .left .candidates) ≡ true → Stage d → Stage onLeft
         left-stage i (untouched zl zr same) =
-            led v (joined-in v small (d .left .chosen)) (λ p m.
-            whole-cases (v ≤ p) d p (into p i m)
-            (λ x. clash (mem p 0) (ap (mem p) (sym zl) ∙ x) (mem-none p))
-            (λ x. clash (mem p 0) (ap (mem p) (sym zr) ∙ x) (mem-none p))
-            (λ x. first zl p (union-left p (d .left .candidates) (d .right .candidates) x))
-            (λ x. first zl p (union-right p (d .left .candidates) (d .right .candidates) x)))
-        left-stage i (led a m least) = led a (union-left a (d .left .chosen) (single v) m) (λ p x. least p (into p i x))
+            led v (joined-in v small (d .left .chosen)) (λ p m. whole-cases d p (v ≤ p) (left-whole i p m)
+            (λ x. first zl p (union-left p (d .left .candidates) (d .right .candidates) (fresh (d .left) zl p x)))
+            (λ x. first zl p (union-right p (d .left .candidates) (d .right .candidates) (fresh (d .right) zr p x))))
+        left-stage i (led a m least) =
+            led a (union-left a (d .left .chosen) (single v) m) (λ p x. least p (left-whole i p x))
 
-        pub put-left : mem v (d .left .candidates) ≡ true → Valid g (putLeft d v (positives g v) (negatives g v))
+        right-stage : mem v (d .right .candidates) ≡ true → mem v (d .left .candidates) ≡ false → Stage d → Stage onRight
+        right-stage i off (untouched zl zr same) = clash (mem v (d .left .candidates)) (ap (mem v) same ∙ i) off
+        right-stage i off (led a m least) = led a m (λ p x. least p (right-whole i p x))
+
+        put-left : mem v (d .left .candidates) ≡ true → Valid g onLeft
         put-left i =
             record {
               parts = parts-join (d .left .chosen) (d .right .chosen) (h .parts) (h .left .candidate v i);
@@ -246,53 +309,25 @@ module _ (g : SignedGraph) (so : Sound g) where
               stage = left-stage i (h .stage);
             }
 
-        -- v goes to the right
-        abbrev after : Node
-        after = flip (putLeft (flip d) v (positives g v) (negatives g v))
-
-        into-right : (p : ℕ) → mem v (d .right .candidates) ≡ true → mem p (whole after) ≡ true → mem p (whole d) ≡ true
-        into-right p i m =
-            whole-cases (mem p (whole d) ≡ true) after p m
-            (of-left d p)
-            (λ x. joined-cases v small (mem p (whole d) ≡ true) p (d .right .chosen) x (of-right d p)
-            (λ e. ap (λ (z : ℕ). mem z (whole d)) e ∙ of-undecided d v (union-right v (d .left .candidates) (d .right .candidates) i)))
-            (λ x. of-undecided d p (union-left p (d .left .candidates) (d .right .candidates)
-            (in-first p (d .left .candidates) (negatives g v) (in-first p (bitAnd (d .left .candidates) (negatives g v)) (others v) x))))
-            (λ x. of-undecided d p (union-right p (d .left .candidates) (d .right .candidates)
-            (in-first p (d .right .candidates) (positives g v) (in-first p (bitAnd (d .right .candidates) (positives g v)) (others v) x))))
-
-        right-stage : mem v (d .right .candidates) ≡ true → mem v (d .left .candidates) ≡ false → Stage d → Stage after
-        right-stage i off (untouched zl zr same) = clash (mem v (d .left .candidates)) (ap (mem v) same ∙ i) off
-        right-stage i off (led a m least) = led a m (λ p x. least p (into-right p i x))
-
-        put-right : mem v (d .right .candidates) ≡ true → mem v (d .left .candidates) ≡ false → Valid g after
+        put-right : mem v (d .right .candidates) ≡ true → mem v (d .left .candidates) ≡ false → Valid g onRight
         put-right i off =
             record {
               parts = parts-flip (bitOr (d .right .chosen) (single v)) (d .left .chosen)
-                  (parts-join (d .right .chosen) (d .left .chosen) (parts-flip (d .left .chosen) (d .right .chosen) (h .parts)) (h .right .candidate v i));
+                  (parts-join (d .right .chosen) (d .left .chosen) (parts-flip (d .left .chosen) (d .right .chosen) (h .parts))
+                  (h .right .candidate v i));
               left = half-far (d .left) (d .right .chosen) (h .left);
               right = half-near (d .right) (d .left .chosen) (h .right);
               stage = right-stage i off (h .stage);
             }
 
         pub put-valid : mem v (undecided d) ≡ true → Valid g (withVertex g d v)
-        unfolding putIn
-        put-valid i = go (mem v (d .left .candidates)) refl
-          where
-            go : (b : Bool) → mem v (d .left .candidates) ≡ b
-                → Valid g (elim b [ true ↦ putLeft d v (positives g v) (negatives g v) | false ↦ flip (putLeft (flip d) v (positives g v) (negatives g v)) ])
-            go true e = put-left e
-            go false e =
-                union-cases (Valid g after) v (d .left .candidates) (d .right .candidates) i
-                (λ x. clash (mem v (d .left .candidates)) x e) (λ x. put-right x e)
+        put-valid i =
+            put-cases (Valid g) d v (positives g v) (negatives g v) put-left
+            (λ off. put-right (union-other v (d .left .candidates) (d .right .candidates) i off) off)
 
-      -- v is left out
       out-stage : Stage d → Stage (leaveOut d v)
       out-stage (untouched zl zr same) = untouched zl zr (ap (λ (c : ℕ). bitAnd c (others v)) same)
-      out-stage (led a m least) =
-          led a m (λ p x. least p (whole-cases (mem p (whole d) ≡ true) (leaveOut d v) p x (of-left d p) (of-right d p)
-          (λ y. of-undecided d p (union-left p (d .left .candidates) (d .right .candidates) (in-first p (d .left .candidates) (others v) y)))
-          (λ y. of-undecided d p (union-right p (d .left .candidates) (d .right .candidates) (in-first p (d .right .candidates) (others v) y)))))
+      out-stage (led a m least) = led a m (λ p x. least p (out-whole p x))
 
       pub out-valid : Valid g (leaveOut d v)
       out-valid =

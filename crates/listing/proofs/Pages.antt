@@ -1,13 +1,13 @@
 -- Pages, for any strictly sorted list of items with records of one width: what one page does, and what is due at its next
 -- bookmark. Assumes nothing.
-use Prim.Native.Nat.{ℕ, zero, suc, _+_, _-_, _*_, _/_, _<_, min}
+use Prim.Native.Nat.{ℕ, zero, suc, _+_, _*_, _/_, _<_, min}
 use native.Mathlib.Nat.{mul-zero, zero-min, min-zero, suc-min-suc}
 use native.Mathlib.Omega.{arith}
 use mathlib.Core.Path.{_≡_, refl, sym, ap, ap₂, _∙_, subst}
 use mathlib.Core.Bool.{Bool, true, false}
 use mathlib.Core.List.{List, [], _∷_, _++_, append-assoc}
 use lib.Dec.{leb}
-use lib.ListN.{length, take, drop, length-append, length-take, length-drop, take-append-drop}
+use lib.ListN.{length, take, drop, length-append, length-take, take-append-drop}
 use lib.Seq.{drop-at, take-at}
 use borrow.Author.Tests.{leb-false}
 use Rattle.vertex_set.specs.Lists.{All, select, Sorted}
@@ -30,7 +30,7 @@ module _ {A : Type 0} where
   take-min (suc n) [] = rw min-zero
   take-min (suc n) (x ∷ l) = rw suc-min-suc (ap {B = List A} (λ r. x ∷ r) (take-min n l))
 
-  pub drop-min : (n : ℕ) (l : List A) → drop (min n (length l)) l ≡ drop n l
+  drop-min : (n : ℕ) (l : List A) → drop (min n (length l)) l ≡ drop n l
   drop-min zero l = rw zero-min
   drop-min (suc n) [] = rw min-zero
   drop-min (suc n) (x ∷ l) = rw suc-min-suc (drop-min n l)
@@ -106,7 +106,7 @@ module _ {X : Type 0} (set : X → ℕ) where
         (ap (select (before x)) e ∙ due-after xs x (t ++ ys) (subst (Sorted before) e sorted))
 
     -- so at the bookmark after c of those due, or after all of them, these are due no more
-    pub due-next : (m : Bookmark) (c : ℕ) → due set (nextMark set m (take c (due set m l))) l ≡ drop c (due set m l)
+    due-next : (m : Bookmark) (c : ℕ) → due set (nextMark set m (take c (due set m l))) l ≡ drop c (due set m l)
     due-next m c =
         let ys : List X = due set m l in
         let split : take c ys ++ drop c ys ≡ ys = take-append-drop c ys in
@@ -127,16 +127,6 @@ module _ {X : Type 0} (set : X → ℕ) (w : ℕ) (l : List X) (sorted : Sorted 
   pub answer-next : (room : ℕ) → due set (answer set w m room (due set m l) .next) l ≡ drop (room / w) (due set m l)
   unfolding answer
   answer-next room = due-next set l sorted m (fitting w room (due set m l)) ∙ drop-min (room / w) (due set m l)
-
-  -- where a page with a place for a record says that there is more, less is due at its next bookmark
-  pub less-due : (room : ℕ) → 0 < room / w → answer set w m room (due set m l) .end ≡ More
-      → length (due set (answer set w m room (due set m l) .next) l) < length (due set m l)
-  unfolding answer
-  less-due room some e =
-      let ys : List X = due set m l in
-      let n : length (drop (room / w) ys) ≡ length ys - room / w = length-drop (room / w) ys in
-      let more : fitting w room ys < length ys = finished-if (length ys) (fitting w room ys) e in
-      subst (λ (t : List X). length t < length ys) (sym (answer-next room)) (omega (arith, n, more))
 
 -- an accepted page, from the items due: it writes the first of them, as many as it has places for, counts them and leaves the
 -- bytes behind their records; at its next bookmark the others are due, and it says finished where there are none

@@ -18,7 +18,11 @@ use Rattle.listing.specs.Listing.{Item, Listed}
 
 -- ---- moving on
 
--- the vertices chosen so far, those still undecided, and both
+-- the vertices that a side has or may still get
+abbrev pub reach : Side → ℕ
+reach s = bitOr (s .chosen) (s .candidates)
+
+-- the vertices chosen so far, those still undecided, both, and those left out that would still fit
 abbrev pub chosen : Node → ℕ
 chosen d = bitOr (d .left .chosen) (d .right .chosen)
 
@@ -27,6 +31,9 @@ undecided d = bitOr (d .left .candidates) (d .right .candidates)
 
 abbrev pub whole : Node → ℕ
 whole d = bitOr (chosen d) (undecided d)
+
+abbrev pub excluded : Node → ℕ
+excluded d = bitOr (d .left .excluded) (d .right .excluded)
 
 -- all vertices but v
 abbrev pub others : ℕ → ℕ
@@ -49,33 +56,37 @@ passedOver s v =
       excluded = bitOr (s .excluded) (bitAnd (s .candidates) (single v));
     }
 
-abbrev pub flip : Node → Node
-flip d = record { left = d .right; right = d .left }
-
 -- where the search starts: these vertices are undecided, and nothing is chosen or left out
 abbrev pub rootOf : ℕ → Node
 rootOf all =
     let side : Side = record { chosen = 0; candidates = all; excluded = 0 } in
     record { left = side; right = side }
 
--- v, which has these positive and negative partners, goes to the left; it goes in where it may; it is left out
+-- v, which has these positive and negative partners, goes to the left; to the right; where it may; it is left out
 abbrev pub putLeft : Node → ℕ → ℕ → ℕ → Node
 putLeft d v positive negative =
     record { left = joined (narrowed (d .left) v positive) v; right = narrowed (d .right) v negative }
 
+abbrev pub putRight : Node → ℕ → ℕ → ℕ → Node
+putRight d v positive negative =
+    record { left = narrowed (d .left) v negative; right = joined (narrowed (d .right) v positive) v }
+
 unfoldable pub putIn : Node → ℕ → ℕ → ℕ → Node
 putIn d v positive negative =
-    elim (mem v (d .left .candidates)) [
-      | true ↦ putLeft d v positive negative
-      | false ↦ flip (putLeft (flip d) v positive negative)
-    ]
-
--- by its rows in a graph
-abbrev pub withVertex : SignedGraph → Node → ℕ → Node
-withVertex g d v = putIn d v (getD (g .positive) v 0) (getD (g .negative) v 0)
+    elim (mem v (d .left .candidates)) [ true ↦ putLeft d v positive negative | false ↦ putRight d v positive negative ]
 
 abbrev pub leaveOut : Node → ℕ → Node
 leaveOut d v = record { left = passedOver (d .left) v; right = passedOver (d .right) v }
+
+-- the partners of v in a graph; v goes in with these
+abbrev pub positives : SignedGraph → ℕ → ℕ
+positives g v = getD (g .positive) v 0
+
+abbrev pub negatives : SignedGraph → ℕ → ℕ
+negatives g v = getD (g .negative) v 0
+
+abbrev pub withVertex : SignedGraph → Node → ℕ → Node
+withVertex g d v = putIn d v (positives g v) (negatives g v)
 
 -- ---- what holds of a node
 
@@ -116,23 +127,30 @@ pub record Free (positive negative : List ℕ) (near far u : ℕ) : Type 0 where
   pub same : (w : ℕ) → mem w near ≡ true → w ≢ u → mem u (getD positive w 0) ≡ true
   pub cross : (w : ℕ) → mem w far ≡ true → mem u (getD negative w 0) ≡ true
 
+-- on the side `near` of a node, `far` being the other
+abbrev pub FreeOn : List ℕ → List ℕ → Side → Side → ℕ → Type 0
+FreeOn positive negative near far u = Free positive negative (near .candidates) (far .candidates) u
+
 -- a candidate that is free on its side
 pub data Universal (positive negative : List ℕ) (d : Node) (u : ℕ) : Type 0 where
-  on-left : mem u (d .left .candidates) ≡ true → Free positive negative (d .left .candidates) (d .right .candidates) u → Universal positive negative d u
-  on-right : mem u (d .right .candidates) ≡ true → Free positive negative (d .right .candidates) (d .left .candidates) u → Universal positive negative d u
+  on-left : mem u (d .left .candidates) ≡ true → FreeOn positive negative (d .left) (d .right) u → Universal positive negative d u
+  on-right : mem u (d .right .candidates) ≡ true → FreeOn positive negative (d .right) (d .left) u → Universal positive negative d u
 
 -- ---- the groups below a node
 
 -- s has what the side has, and beyond that only candidates of it
 pub record Between (side : Side) (s : ℕ) : Type 0 where
   pub holds : Subset (side .chosen) s
-  pub only : Subset s (bitOr (side .chosen) (side .candidates))
+  pub only : Subset s (reach side)
 
 pub record Below (d : Node) (x : Item) : Type 0 where
   pub left : Between (d .left) (x .left)
   pub right : Between (d .right) (x .right)
 
--- the node e stands for the same groups as d
+-- no group is below d; the node e stands for the same groups as d
+abbrev pub Barren : SignedGraph → ℕ → Node → Type 0
+Barren g k d = (x : Item) → Listed g k x → Below d x → ⊥
+
 pub record Same (g : SignedGraph) (k : ℕ) (d e : Node) : Type 0 where
   pub valid : Valid g e
   pub to : (x : Item) → Listed g k x → Below d x → Below e x
@@ -143,7 +161,7 @@ abbrev pub within : ℕ → ℕ → Bool
 within a b = eqb (bitAnd a b) a
 
 abbrev pub isBetween : Side → ℕ → Bool
-isBetween side s = within (side .chosen) s && within s (bitOr (side .chosen) (side .candidates))
+isBetween side s = within (side .chosen) s && within s (reach side)
 
 unfoldable pub isBelow : Node → Item → Bool
 isBelow d x = isBetween (d .left) (x .left) && isBetween (d .right) (x .right)
@@ -153,14 +171,11 @@ itemsBelow d l = select (isBelow d) l
 
 -- a side is too small, even with all its candidates
 unfoldable pub short : ℕ → Node → Bool
-short k d =
-    not (floor k (size (bitOr (d .left .chosen) (d .left .candidates))) (size (bitOr (d .right .chosen) (d .right .candidates))))
+short k d = not (floor k (size (reach (d .left))) (size (reach (d .right))))
 
 -- the chosen set with its sides; where nothing is undecided, whether it is a group
 abbrev pub leafItem : Node → Item
 leafItem d = record { vertices = chosen d; left = d .left .chosen; right = d .right .chosen }
 
 unfoldable pub groupAt : ℕ → Node → Bool
-groupAt k d =
-    ltb 0 (chosen d) && eqb (bitOr (d .left .excluded) (d .right .excluded)) 0
-    && floor k (size (d .left .chosen)) (size (d .right .chosen))
+groupAt k d = ltb 0 (chosen d) && eqb (excluded d) 0 && floor k (size (d .left .chosen)) (size (d .right .chosen))

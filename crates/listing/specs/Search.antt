@@ -16,16 +16,22 @@ use Rattle.listing.specs.declared.Best.{Best}
 use Rattle.listing.specs.declared.Node.{Node}
 use Rattle.listing.specs.declared.Fitting.{Fitting}
 use Rattle.listing.specs.declared.Progress.{Progress}
-use Rattle.listing.specs.Listing.{Item, Listed}
+use Rattle.listing.specs.Listing.{Item}
 use Rattle.listing.specs.Pages.{dueAt}
 use Rattle.listing.specs.Calls.{dueGroups}
 use Rattle.listing.specs.Largest.{sizeOf}
 use Rattle.listing.specs.Filling.{Holds}
-use Rattle.listing.specs.Nodes.{chosen, Valid, Free, Universal, Below, Same, itemsBelow, groupAt, leafItem}
+use Rattle.listing.specs.Nodes.{chosen, Valid, FreeOn, Universal, Barren, Same, itemsBelow, groupAt, leafItem}
 
--- the graph of n vertices with these tables
+-- the graph of n vertices with these tables; what holds of every such graph that is sound and in which the node is valid
 abbrev pub graphOf : ℕ → List ℕ → List ℕ → SignedGraph
 graphOf n positive negative = record { n = n; positive = positive; negative = negative }
+
+abbrev pub InSound : List ℕ → List ℕ → Node → (SignedGraph → Type 0) → Type 0
+InSound positive negative d P =
+    (n : ℕ) → sound (graphOf n positive negative) ≡ true → Valid (graphOf n positive negative) d → P (graphOf n positive negative)
+
+-- ---- moving on
 
 -- those of `near` and `far` that fit beside every candidate: on its side positive to all others, on the other side negative to all
 pub record Beside (positive negative : List ℕ) (candidates near far : ℕ) (r : Fitting) : Type 0 where
@@ -36,36 +42,42 @@ pub record Beside (positive negative : List ℕ) (candidates near far : ℕ) (r 
 
 -- the vertices that are free on the left, and on the right
 pub record FreeSides (positive negative : List ℕ) (d : Node) (r : Fitting) : Type 0 where
-  pub left : (u : ℕ) → mem u (r .near) ≡ true → Free positive negative (d .left .candidates) (d .right .candidates) u
-  pub right : (u : ℕ) → mem u (r .far) ≡ true → Free positive negative (d .right .candidates) (d .left .candidates) u
+  pub left : (u : ℕ) → mem u (r .near) ≡ true → FreeOn positive negative (d .left) (d .right) u
+  pub right : (u : ℕ) → mem u (r .far) ≡ true → FreeOn positive negative (d .right) (d .left) u
 
 -- where the universal candidates `free` go in, the node stands for the same groups
 abbrev pub Settles : List ℕ → List ℕ → Node → ℕ → Node → Type 0
 Settles positive negative d free e =
-    (n k : ℕ) → sound (graphOf n positive negative) ≡ true → Valid (graphOf n positive negative) d
-    → ((u : ℕ) → mem u free ≡ true → Universal positive negative d u) → Same (graphOf n positive negative) k d e
+    InSound positive negative d (λ g.
+    (k : ℕ) → ((u : ℕ) → mem u free ≡ true → Universal positive negative d u) → Same g k d e)
 
 -- no group is below the node, or the new one stands for the same groups
 abbrev pub Advances : List ℕ → List ℕ → ℕ → Node → Progress → Type 0
 Advances positive negative k d a =
-    (n : ℕ) → sound (graphOf n positive negative) ≡ true → Valid (graphOf n positive negative) d
-    → (a .barren ≡ true → (x : Item) → Listed (graphOf n positive negative) k x → Below d x → ⊥)
-    × (a .barren ≡ false → Same (graphOf n positive negative) k d (a .node))
+    InSound positive negative d (λ g. (a .barren ≡ true → Barren g k d) × (a .barren ≡ false → Same g k d (a .node)))
 
--- where the page held the due groups met so far, and nothing is undecided, it now holds the group of the leaf too, if it is one and due
+-- ---- the groups due, on a page
+
+-- those below a node; where nothing is undecided, its chosen set if that is a group and due
+abbrev pub dueBelow : SignedGraph → ℕ → Bookmark → Node → List Item
+dueBelow g k from d = itemsBelow d (dueGroups g k from)
+
 abbrev pub leafItems : ℕ → Bookmark → Node → List Item
 leafItems k from d = elim (groupAt k d && dueAt from (chosen d)) [ true ↦ leafItem d ∷ [] | false ↦ [] ]
 
-abbrev pub ListsLeaf : ℕ → Bookmark → Node → Page → List ℕ → Page → List ℕ → Type 0
-ListsLeaf k from d page entry after exit =
-    (buffer : List ℕ) (met : List Item) → Holds from buffer met page entry → Holds from buffer (met ++ leafItems k from d) after exit
+-- where the page held the due groups met so far, it now holds these too
+abbrev pub Adds : Bookmark → List Item → Page → List ℕ → Page → List ℕ → Type 0
+Adds from items page entry after exit =
+    (buffer : List ℕ) (met : List Item) → Holds from buffer met page entry → Holds from buffer (met ++ items) after exit
 
--- where the page held the due groups met so far, it now holds those below the node too
+abbrev pub ListsLeaf : ℕ → Bookmark → Node → Page → List ℕ → Page → List ℕ → Type 0
+ListsLeaf k from d page entry after exit = Adds from (leafItems k from d) page entry after exit
+
 abbrev pub Lists : List ℕ → List ℕ → ℕ → Bookmark → Node → Page → List ℕ → Page → List ℕ → Type 0
 Lists positive negative k from d page entry after exit =
-    (n : ℕ) → sound (graphOf n positive negative) ≡ true → Valid (graphOf n positive negative) d
-    → (buffer : List ℕ) (met : List Item) → Holds from buffer met page entry
-    → Holds from buffer (met ++ itemsBelow d (dueGroups (graphOf n positive negative) k from)) after exit
+    InSound positive negative d (λ g. Adds from (dueBelow g k from d) page entry after exit)
+
+-- ---- the largest group
 
 -- the larger of the largest group so far and another; the one so far where they have as many vertices
 abbrev pub bestItem : Item → Best
@@ -81,6 +93,4 @@ bestOf b (x ∷ l) = bestOf (better b x) l
 
 -- of the largest group so far and those below the node, the largest
 abbrev pub Finds : List ℕ → List ℕ → ℕ → Node → Best → Best → Type 0
-Finds positive negative k d b r =
-    (n : ℕ) → sound (graphOf n positive negative) ≡ true → Valid (graphOf n positive negative) d
-    → r ≡ bestOf b (itemsBelow d (dueGroups (graphOf n positive negative) k Start))
+Finds positive negative k d b r = InSound positive negative d (λ g. r ≡ bestOf b (dueBelow g k Start d))

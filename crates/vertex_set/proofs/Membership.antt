@@ -46,6 +46,9 @@ mem-past k p s h l = ap (λ (x : ℕ). eqb (x % 2) 1) (div-eq-of-lt (lt-of-lt-of
 pub mem-none : (p : ℕ) → mem p 0 ≡ false
 mem-none p = mem-past 0 p 0 (pow-pos 0) (omega arith)
 
+pub none-in : {A : Type 0} (p : ℕ) → mem p 0 ≡ true → A
+none-in p m = clash (mem p 0) m (mem-none p)
+
 pub mem-lt : (n p s : ℕ) → s < 2 ^ n → mem p s ≡ true → p < n
 mem-lt n p s h e = go (decLt p n)
   where
@@ -55,7 +58,7 @@ mem-lt n p s h e = go (decLt p n)
 
 -- a set with a member is not empty
 pub mem-pos : (p s : ℕ) → mem p s ≡ true → 0 < s
-mem-pos p zero e = clash (mem p 0) e (mem-none p)
+mem-pos p zero e = none-in p e
 mem-pos p (suc s) e = zero-lt-suc s
 
 -- ---- intersection, union, and what only one of two has
@@ -105,6 +108,22 @@ union-right p a b m = mem-or p a b ∙ or-right (mem p a) (mem p b) m
 
 pub union-cases : (A : Type 0) (p a b : ℕ) → mem p (bitOr a b) ≡ true → (mem p a ≡ true → A) → (mem p b ≡ true → A) → A
 union-cases A p a b m = or-cases A (mem p a) (mem p b) (sym (mem-or p a b) ∙ m)
+
+pub union-other : (p a b : ℕ) → mem p (bitOr a b) ≡ true → mem p a ≡ false → mem p b ≡ true
+union-other p a b m off = union-cases (mem p b ≡ true) p a b m (λ x. clash (mem p a) x off) (λ x. x)
+
+pub union-mono : (a b c d : ℕ) → Subset a c → Subset b d → Subset (bitOr a b) (bitOr c d)
+union-mono a b c d s t p m =
+    union-cases (mem p (bitOr c d) ≡ true) p a b m (λ x. union-left p c d (s p x)) (λ x. union-right p c d (t p x))
+
+pub meet-in : (p a b : ℕ) → mem p a ≡ true → mem p b ≡ true → mem p (bitAnd a b) ≡ true
+meet-in p a b x y = mem-and p a b ∙ and-intro (mem p a) (mem p b) x y
+
+pub meet-left : (p a b : ℕ) → mem p (bitAnd a b) ≡ true → mem p a ≡ true
+meet-left p a b m = and-left (mem p a) (mem p b) (sym (mem-and p a b) ∙ m)
+
+pub meet-right : (p a b : ℕ) → mem p (bitAnd a b) ≡ true → mem p b ≡ true
+meet-right p a b m = and-right (mem p a) (mem p b) (sym (mem-and p a b) ∙ m)
 
 -- ---- complement among k vertices, and difference
 
@@ -165,7 +184,7 @@ subset-and a b s =
     mem-and p a b ∙ iff (mem p a && mem p b) (mem p a) (and-left (mem p a) (mem p b)) (λ m. and-intro (mem p a) (mem p b) m (s p m)))
 
 pub and-subset : (a b : ℕ) → bitAnd a b ≡ a → Subset a b
-and-subset a b e p m = and-right (mem p a) (mem p b) (sym (mem-and p a b) ∙ ap (mem p) e ∙ m)
+and-subset a b e p m = meet-right p a b (ap (mem p) e ∙ m)
 
 -- ---- the n lowest vertices: a set whose members are below n is below 2 ^ n
 

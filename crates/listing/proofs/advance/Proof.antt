@@ -10,11 +10,13 @@ returns c = (λ p m. m, advance-short _ _ _ _ (sym (c .before .is-short .ensures
 
 returns-2 : tie.Need-returns-2
 returns-2 c =
-    (λ p m. m, advance-dominated _ _ _ _ _ (c .before .before .before .before .before .before .before .free-sides .ensures) (c .if2 .taken))
+    let f = c .before .before .before .before .before .before .before .free-sides in
+    (λ p m. m, advance-dominated _ _ _ _ (f .result) (f .ensures) (c .if2 .taken))
 
 returns-3 : tie.Need-returns-3
 returns-3 c =
-    let f = c .before .before .before .before .before .before .before .before .before .before .before .before .free-sides in
+    let e = c .before .before .before .before .before in
+    let f = e .before .before .before .before .before .before .before .free-sides in
     (c .settle .ensures .0, advance-settled _ _ _ _ (f .result) (f .ensures) _ (c .settle .ensures .1))
 
 pub advance-spec : {M : Type 1} → statement M

@@ -8,7 +8,8 @@ use Rattle.listing.proofs.beside_all.Statement.{statement}
 use Rattle.listing.proofs.beside_all.Tie as tie
 
 abbrev Inv-loop : tie.InvT-loop
-Inv-loop candidates near far positive negative same₀ cross₀ left₀ same cross left = Passing positive negative candidates near far left same cross
+Inv-loop candidates near far positive negative same₀ cross₀ left₀ same cross left =
+    Passing positive negative candidates near far left same cross
 
 abbrev μ-loop : tie.MeasureT-loop
 μ-loop candidates near far positive negative same₀ cross₀ left₀ same cross left = size left
@@ -16,11 +17,20 @@ abbrev μ-loop : tie.MeasureT-loop
 loop-holds : tie.Need-loop-holds Inv-loop μ-loop
 loop-holds c = passing-begin _ _ _ _ _ (c .fits .candidates .fits)
 
+small : tie.Need-element-copy-out-same Inv-loop μ-loop
+small c = omega (arith, c .lowest .ensures, lowest-lt _ (search needs) (c .before .before .loop .inv .sweep .fits))
+
+loop-less : tie.Need-loop-less Inv-loop μ-loop
+loop-less c =
+    let w = c .before .before .before .before in
+    omega (arith, size-rest _ (search needs) (w .before .before .loop .inv .sweep .fits))
+
 loop-again : tie.Need-loop-again Inv-loop μ-loop
 loop-again c =
-    let w = c .before .before .before .before .lowest in
-    let one = c .before .before .single in
-    passing-step _ _ _ _ _ (c .before .before .before .before .before .before .loop .inv) (search needs) (w .result) (w .ensures) (one .result) (one .ensures)
+    let one = c .before .before in
+    let w = one .before .before in
+    passing-step _ _ _ _ _ (w .before .before .loop .inv) (search needs) (w .lowest .result) (w .lowest .ensures)
+    (one .single .result) (one .single .ensures)
 
 returns : tie.Need-returns Inv-loop μ-loop
 returns c = beside-none _ _ _ _ _
@@ -36,13 +46,13 @@ beside-all-spec =
     μ-loop
     loop-holds
     (λ c κs. search needs)
-    (λ c. omega (arith, c .lowest .ensures, lowest-lt _ (search needs) (c .before .before .loop .inv .sweep .fits)))
-    (λ c. omega (arith, c .lowest .ensures, lowest-lt _ (search needs) (c .before .before .loop .inv .sweep .fits)))
+    (λ c. record { fits = omega (arith, small c) })
+    small
     (λ c κs. search needs)
-    (λ c. omega (arith, c .before .before .lowest .ensures, lowest-lt _ (search needs) (c .before .before .before .before .loop .inv .sweep .fits)))
-    (λ c. omega (arith, c .before .before .lowest .ensures, lowest-lt _ (search needs) (c .before .before .before .before .loop .inv .sweep .fits)))
+    (λ c. record { fits = omega (arith, small (c .before .before)) })
+    (λ c. small (c .before .before))
     returns
     (λ c. search needs)
-    (λ c. omega (arith, size-rest _ (search needs) (c .before .before .before .before .before .before .loop .inv .sweep .fits)))
+    loop-less
     loop-again
     returns-2)

@@ -14,8 +14,10 @@ returns-2 c = sym (not-extended _ _ (c .if2 .taken))
 
 returns-3 : tie.Need-returns-3
 returns-3 c =
-    c .large-enough .ensures ∙ ap₂ (floor _) (c .before .before .size .ensures) (c .before .size2 .ensures)
-    ∙ sym (large-group _ _ (c .before .before .before .before .before .before .if1 .left) (c .before .before .before .if2 .left))
+    let s = c .before .before in
+    let e = s .before in
+    c .large-enough .ensures ∙ ap₂ (floor _) (s .size .ensures) (c .before .size2 .ensures)
+    ∙ sym (large-group _ _ (e .before .before .before .if1 .left) (e .if2 .left))
 
 pub is-group-spec : {M : Type 1} → statement M
 is-group-spec =

@@ -1,32 +1,42 @@
 -- `listing::largest` meets its contract. The check decides, then the largest group of a sound graph. Assumes nothing.
-use mathlib.Core.Path.{sym, ap, _∙_}
+use Prim.Native.Nat.{ℕ}
+use mathlib.Core.Path.{_≡_, refl, sym, ap, _∙_}
 use borrow.Author.Needs.{needs}
+use Rattle.signed_graph.specs.declared.SignedGraph.{SignedGraph}
 use Rattle.signed_graph.specs.declared.Check.{Check}
+use Rattle.signed_graph.specs.Calls.{checkOf}
 use Rattle.signed_graph.proofs.Calls.{accepted-sound}
 use Rattle.listing.specs.declared.LargestGroup.{LargestGroup}
 use Rattle.listing.specs.Listing.{listing}
-use Rattle.listing.specs.Largest.{largestOf, largestBy, numberOf}
+use Rattle.listing.specs.Largest.{largestOf, largestBy, largestGroup, numberOf, largestNumber}
 use Rattle.listing.proofs.Bests.{largest-number}
 use Rattle.listing.proofs.largest.Statement.{statement}
 use Rattle.listing.proofs.largest.Tie as tie
 
 largest-sound-requires : tie.Need-largest-sound-requires
 largest-sound-requires c κs =
-    let a = c .before .before .before .args in
-    accepted-sound (a .g) (a .k) (sym (c .before .before .check-call .ensures .0) ∙ c .enum-told .given .1)
+    let k = c .before .before in
+    let a = k .before .args in
+    accepted-sound (a .g) (a .k) (sym (k .check-call .ensures .0) ∙ c .enum-told .given .1)
+
+-- the answer by the check, and its number
+answers : (g : SignedGraph) (k : ℕ) (x : Check) (r : LargestGroup) → r ≡ largestBy x (largestOf (listing g k)) → x ≡ checkOf g k
+    → (r ≡ largestGroup g k) × (numberOf (r .outcome) ≡ largestNumber g k)
+answers g k x r is e =
+    let whole = is ∙ ap (λ (y : Check). largestBy y (largestOf (listing g k))) e in
+    (whole, ap (λ (y : LargestGroup). numberOf (y .outcome)) whole ∙ largest-number g k)
 
 returns : tie.Need-returns
 returns c =
-    let a = c .before .before .before .before .args in
-    let e = ap (λ (x : Check). largestBy x (largestOf (listing (a .g) (a .k)))) (sym (c .before .refusal .given .1) ∙ c .before .before .before .check-call .ensures .0) in
-    (e, ap (λ (x : LargestGroup). numberOf (x .outcome)) e ∙ largest-number (a .g) (a .k))
+    let k = c .before .before .before in
+    let a = k .before .args in
+    answers (a .g) (a .k) _ _ refl (sym (c .before .refusal .given .1) ∙ k .check-call .ensures .0)
 
 returns-2 : tie.Need-returns-2
 returns-2 c =
-    let a = c .before .before .before .before .args in
-    let e = c .largest-sound .ensures
-    ∙ ap (λ (x : Check). largestBy x (largestOf (listing (a .g) (a .k)))) (sym (c .before .enum-told .given .1) ∙ c .before .before .before .check-call .ensures .0) in
-    (e, ap (λ (x : LargestGroup). numberOf (x .outcome)) e ∙ largest-number (a .g) (a .k))
+    let k = c .before .before .before in
+    let a = k .before .args in
+    answers (a .g) (a .k) _ _ (c .largest-sound .ensures) (sym (c .before .enum-told .given .1) ∙ k .check-call .ensures .0)
 
 pub largest-spec : {M : Type 1} → statement M
 largest-spec =

@@ -8,12 +8,18 @@ use Rattle.listing.proofs.largest_sound.Tie as tie
 returns : tie.Need-returns
 unfolding vertices
 returns c =
-    largest-none _ _ (c .before .before .before .before .before .before .before .before .pre) _ _ _ (c .before .before .before .before .before .before .before .below .ensures) (c .before .before .before .before .before .before .root .ensures) (c .before .before .largest-below .ensures) (c .if1 .taken)
+    let l = c .before .before in
+    let r = l .before .before .before .before in
+    largest-none _ _ (r .before .before .pre) _ _ _ (r .before .below .ensures) (r .root .ensures) (l .largest-below .ensures)
+    (c .if1 .taken)
 
 returns-2 : tie.Need-returns-2
 unfolding vertices
 returns-2 c =
-    largest-some _ _ (c .before .before .before .before .before .before .before .before .pre) _ _ _ (c .before .before .before .before .before .before .before .below .ensures) (c .before .before .before .before .before .before .root .ensures) (c .before .before .largest-below .ensures) (c .if1 .left)
+    let l = c .before .before in
+    let r = l .before .before .before .before in
+    largest-some _ _ (r .before .before .pre) _ _ _ (r .before .below .ensures) (r .root .ensures) (l .largest-below .ensures)
+    (c .if1 .left)
 
 pub largest-sound-spec : {M : Type 1} → statement M
 largest-sound-spec =

@@ -8,9 +8,10 @@ use Rattle.listing.proofs.list_sound.Tie as tie
 returns : tie.Need-returns
 unfolding vertices
 returns c =
-    let s = c .before .before .before .before .before .before .before .before .before .before in
-    lists-all _ _ _ _ _ _ _ _ (s .pre) (c .before .before .before .before .before .before .before .before .below .ensures)
-    (c .before .before .before .before .before .before .before .root .ensures) (c .before .before .list-below .ensures)
+    let l = c .before .before in
+    let r = l .before .before .before .before .before in
+    lists-all _ _ _ _ _ _ _ _ (r .before .before .before .pre) (r .before .below .ensures) (r .root .ensures)
+    (l .list-below .ensures)
 
 pub list-sound-spec : {M : Type 1} → statement M
 list-sound-spec =

@@ -16,10 +16,14 @@ abbrev μ-loop : tie.MeasureT-loop
 loop-holds : tie.Need-loop-holds Inv-loop μ-loop
 loop-holds c = settling-begin _ _ _ _ (c .fits .free .fits)
 
+small : tie.Need-element-copy-out-put-in Inv-loop μ-loop
+small c = omega (arith, c .lowest .ensures, lowest-lt _ (search needs) (c .before .before .loop .inv .fits))
+
 loop-again : tie.Need-loop-again Inv-loop μ-loop
 loop-again c =
-    let u = c .before .before .before .lowest in
-    settling-step _ _ _ _ (c .before .before .before .before .before .loop .inv) (search needs) (u .result) (u .ensures) (c .put-in .result) (c .put-in .ensures)
+    let u = c .before .before .before in
+    settling-step _ _ _ _ (u .before .before .loop .inv) (search needs) (u .lowest .result) (u .lowest .ensures)
+    (c .put-in .result) (c .put-in .ensures)
 
 returns : tie.Need-returns Inv-loop μ-loop
 returns c = (c .before .loop .inv .fewer, settling-end _ _ _ _ (c .before .loop .inv))
@@ -32,12 +36,12 @@ settle-spec =
     μ-loop
     loop-holds
     (λ c κs. search needs)
-    (λ c. omega (arith, c .lowest .ensures, lowest-lt _ (search needs) (c .before .before .loop .inv .fits)))
-    (λ c. omega (arith, c .lowest .ensures, lowest-lt _ (search needs) (c .before .before .loop .inv .fits)))
-    (λ c. omega (arith, c .before .lowest .ensures, lowest-lt _ (search needs) (c .before .before .before .loop .inv .fits)))
-    (λ c. omega (arith, c .before .lowest .ensures, lowest-lt _ (search needs) (c .before .before .before .loop .inv .fits)))
+    (λ c. record { fits = omega (arith, small c) })
+    small
+    (λ c. record { fits = omega (arith, small (c .before)) })
+    (λ c. small (c .before))
     (λ c κs. search needs)
     (λ c. search needs)
-    (λ c. omega (arith, size-rest _ (search needs) (c .before .before .before .before .before .loop .inv .fits)))
+    (λ c. let u = c .before .before .before in omega (arith, size-rest _ (search needs) (u .before .before .loop .inv .fits)))
     loop-again
     returns)

@@ -6,9 +6,10 @@ use Rattle.listing.proofs.write_record.Tie as tie
 
 returns : tie.Need-returns
 returns c =
-    let b = c .before .before .before .before .before .before .before .before .before in
-    record-laid (b .args .left) (b .args .right) (b .args .out .now) _ _ (b .pre)
-    (c .before .before .before .before .before .before .write-word .ensures) (c .before .before .write-word2 .ensures)
+    let w = c .before .before .before .before .before .before in
+    let s = w .before .before .before in
+    record-laid (s .args .left) (s .args .right) (s .args .out .now) _ _ (s .pre) (w .write-word .ensures)
+    (c .before .before .write-word2 .ensures)
 
 pub write-record-spec : {M : Type 1} → statement M
 write-record-spec =
