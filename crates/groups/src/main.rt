@@ -13,13 +13,13 @@ use signed_graph::SignedGraph;
 ghost use mathlib.Core.Path.{_≡_};
 ghost use Prim.Native.Nat.{_*_, _/_, _≤_};
 ghost use lib.ListN.{length, take};
+ghost use Rattle.vertex_set.specs.Buffers.{overwritten};
 ghost use Rattle.signed_graph.specs.declared.Check.the-variants.{Accepted};
 ghost use Rattle.signed_graph.specs.Calls.{checkOf};
 ghost use Rattle.listing.specs.Listing.{listing as listed};
 ghost use Rattle.listing.specs.Calls.{dueGroups, pageOf};
 ghost use Rattle.listing.specs.Largest.{largestGroup};
 ghost use Rattle.report.specs.Lines.{lineText};
-ghost use Rattle.report.specs.Writing.{overwritten};
 ghost use Rattle.groups.specs.Words.{valueOf};
 ghost use Rattle.groups.specs.Answers.{lineOfRecord, lineOfLargest, lineOfFault, lineOfRefusal, recordsText, groupsText};
 
@@ -99,10 +99,7 @@ fn fault_line(fault: Fault) -> Line
 fn refusal_line(why: Refusal) -> Line
     ensures { λ r. ⌜ r ≡ lineOfRefusal why ⌝ }
 {
-    match why {
-        Refusal::Unsound => Line::Refusal(10),
-        Refusal::ThresholdTooLarge => Line::Refusal(11),
-    }
+    Line::Refusal(why.number())
 }
 
 // Writes the lines of records, and returns how many bytes they take.

@@ -5,7 +5,7 @@ ghost use Rattle.vertex_set.specs.Ranges.{all};
 ghost use Rattle.signed_graph.specs.Graphs.{edgeless};
 ghost use Rattle.signed_graph.specs.Soundness.{sound};
 ghost use Rattle.signed_graph.specs.Rows.{symmetricRow, rowSound, rowsSound};
-ghost use Rattle.signed_graph.specs.Calls.{checkOf, numberOf, refusalNumber};
+ghost use Rattle.signed_graph.specs.Calls.{checkOf, refusalOf, numberOf, refusalNumber};
 
 pub const MOST_VERTICES: u64 = 64;
 
@@ -29,6 +29,18 @@ pub enum Refusal {
 pub enum Check {
     Accepted,
     Refused(Refusal),
+}
+
+impl Refusal {
+    // The number of the refusal.
+    pub fn number(self) -> u64
+        ensures { λ r. ⌜ r ≡ refusalOf self ⌝ }
+    {
+        match self {
+            Refusal::Unsound => 10,
+            Refusal::ThresholdTooLarge => 11,
+        }
+    }
 }
 
 impl SignedGraph {

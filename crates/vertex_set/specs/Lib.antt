@@ -1,4 +1,5 @@
 pub mod Alternatives
+pub mod Buffers
 pub mod Lists
 pub mod Ranges
 pub mod Sets
