@@ -114,8 +114,11 @@ const BUFFERS: [(&str, &[usize]); 7] = [
     (A, &[0, 26, 27, 32]),
 ];
 
-/// Graphs given by n and the rows of the vertices 0 and 1, with the length of a buffer to encode into.
-const ROWS: [(&str, u64, [u64; 2], [u64; 2], usize); 11] = [
+/// A name, n, the positive and the negative rows of the vertices 0 and 1, and the length of a buffer.
+type Rows = (&'static str, u64, [u64; 2], [u64; 2], usize);
+
+/// Graphs given by rows, each encoded into a buffer.
+const ROWS: [Rows; 11] = [
     ("sound", 2, [2, 1], [0, 0], 8),
     ("n is 65", 65, [0, 0], [0, 0], 8),
     ("n is 65, no room", 65, [0, 0], [0, 0], 0),
@@ -129,14 +132,17 @@ const ROWS: [(&str, u64, [u64; 2], [u64; 2], usize); 11] = [
     ("no vertices, no room", 0, [0, 0], [2, 1], 0),
 ];
 
-/// The pages of sheet A for 1 by bookmark and length of buffer, apart from the linked ones.
+/// The lengths of the buffers of pages from the start.
 const FROM_START: [usize; 7] = [0, 15, 16, 31, 32, 33, 48];
-const FROM_SETS: [(&[u32], usize); 5] = [
-    (&[0, 1, 2, 3], 16),
-    (&[], 32),
-    (&[0, 1, 2, 3, 63], 32),
-    (&[0, 1, 2], 32),
-    (&[63], 32),
+
+/// The sets of bookmarks, and the length of the buffer of each page after one.
+const FROM_SETS: [(u64, usize); 6] = [
+    (0b1111, 16),
+    (0, 32),
+    (u64::MAX, 32),
+    (1 << 63 | 0b1111, 32),
+    (0b111, 32),
+    (1 << 63, 32),
 ];
 
 /// The sets of sheet A that are classified.
@@ -199,13 +205,7 @@ fn pages() -> Vec<String> {
         (from, finished) = (answer.next, answer.finished);
     }
     lines.push(page(from, 16).0);
-    let mut others = FROM_SETS.map(|(set, room)| (set_of(set), room)).to_vec();
-    others.insert(2, (u64::MAX, 32));
-    lines.extend(
-        others
-            .iter()
-            .map(|&(set, room)| page(Bookmark::After(set), room).0),
-    );
+    lines.extend(FROM_SETS.map(|(set, room)| page(Bookmark::After(set), room).0));
     lines
 }
 

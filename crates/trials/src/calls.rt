@@ -1,4 +1,4 @@
-// A graph through every call: reduced, listed, its largest group, sets judged, and records looked up.
+// A graph through every call: reduced, listed, its largest group, sets classified, and records looked up.
 use crate::edge_lists::decode;
 use crate::edge_lists::encode;
 use crate::graphs::of_rows;

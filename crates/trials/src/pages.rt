@@ -71,7 +71,7 @@ fn rooms(g: SignedGraph) {
     list(g, 1, Bookmark::Start, 48);
 }
 
-// One record a page, each page from the bookmark of the one before, until one is finished; then one page more.
+// One record a page, each page from the bookmark of the one before, until one is finished, eight at most; then one page more.
 fn linked(g: SignedGraph, k: u64) {
     let mut from = Bookmark::Start;
     let mut left: usize = 8;
