@@ -83,14 +83,7 @@ pub fn print_sides(text: &[u8], left: u64, right: u64) {
 }
 
 pub fn print_refusal(why: Refusal) {
-    match why {
-        Refusal::Unsound => {
-            print_number(b"refused ", 10);
-        }
-        Refusal::ThresholdTooLarge => {
-            print_number(b"refused ", 11);
-        }
-    }
+    print_number(b"refused ", why.number());
 }
 
 pub fn print_check(outcome: Check) {

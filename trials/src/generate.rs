@@ -1,0 +1,13 @@
+//! Seeded generators of everything that the trials hand over.
+
+mod edge_lists;
+mod graphs;
+mod random;
+mod sets;
+mod unsound;
+
+pub use edge_lists::{damaged, edge_list, mutated, random_bytes, scrambled};
+pub use graphs::{dense_graph, graph, rich_graph, small_graph};
+pub use random::Rng;
+pub use sets::{bookmark, buffer_length, over_most, set_to_classify, threshold};
+pub use unsound::{unsound, UNSOUND_KINDS};

@@ -1,0 +1,208 @@
+//! Edge lists: valid, damaged in a known way, mutated, and plain noise.
+
+use super::graphs::graph;
+use super::random::Rng;
+use crate::reference::SignedGraph;
+
+/// A damaged list with the refusal and the place that it was made for.
+pub struct Damage {
+    pub bytes: Vec<u8>,
+    pub refusal: u64,
+    pub place: usize,
+}
+
+/// A graph and a valid edge list of it, edges in random order and either way round.
+pub fn edge_list(rng: &mut Rng) -> (SignedGraph, Vec<u8>) {
+    let graph = graph(rng);
+    let bytes = scrambled(rng, &graph);
+    (graph, bytes)
+}
+
+/// A valid edge list of a graph, edges in random order and either way round.
+pub fn scrambled(rng: &mut Rng, graph: &SignedGraph) -> Vec<u8> {
+    let mut bytes = vec![0x10, graph.n as u8];
+    for command in commands(rng, graph) {
+        bytes.extend(command);
+    }
+    bytes.push(0xff);
+    bytes
+}
+
+fn commands(rng: &mut Rng, graph: &SignedGraph) -> Vec<[u8; 3]> {
+    let mut commands = Vec::new();
+    for u in 0..graph.n {
+        for v in u + 1..graph.n {
+            if graph.is_edge(u, v) {
+                let command = if graph.is_positive(u, v) { 0x21 } else { 0x22 };
+                let swap = rng.chance(50);
+                let (a, b) = if swap { (v, u) } else { (u, v) };
+                commands.push([command, a as u8, b as u8]);
+            }
+        }
+    }
+    rng.shuffle(&mut commands);
+    commands
+}
+
+fn graph_with_edge(rng: &mut Rng) -> SignedGraph {
+    loop {
+        let graph = graph(rng);
+        if (0..64).any(|v| graph.positive[v] | graph.negative[v] != 0) {
+            return graph;
+        }
+    }
+}
+
+/// A list made to be refused with one number from 1 to 9.
+pub fn damaged(rng: &mut Rng, refusal: u64) -> Damage {
+    let graph = graph_with_edge(rng);
+    let edges = commands(rng, &graph);
+    // Whole commands that stay in front of the fault; for an edge given again at least one.
+    let fewest = usize::from(refusal == 7);
+    let kept = rng.length(fewest, edges.len());
+    let mut bytes = vec![0x10, graph.n as u8];
+    bytes.extend(edges[..kept].concat());
+    let place = bytes.len();
+    let tail = scrambled(rng, &graph).split_off(2);
+    match refusal {
+        1 | 2 => return damaged_opening(rng, refusal, bytes),
+        3 => bytes.extend(unknown_command(rng, &tail)),
+        4 => return cut_inside(rng, bytes, &edges),
+        5..=7 => {
+            bytes.extend(bad_operands(rng, refusal, &graph, &edges[..kept]));
+            bytes.extend(tail);
+        }
+        8 => {}
+        _ => {
+            bytes.push(0xff);
+            let length = rng.length(1, 9);
+            bytes.extend((0..length).map(|_| rng.pick(&[0x00, 0x10, 0x21, 0xff])));
+        }
+    }
+    let place = if refusal == 9 { place + 1 } else { place };
+    Damage {
+        bytes,
+        refusal,
+        place,
+    }
+}
+
+fn damaged_opening(rng: &mut Rng, refusal: u64, mut bytes: Vec<u8>) -> Damage {
+    if refusal == 2 {
+        bytes[1] = rng.between(65, 255) as u8;
+        let length = rng.length(2, bytes.len());
+        bytes.truncate(length);
+    } else if rng.chance(20) {
+        bytes.clear();
+    } else {
+        bytes[0] = loop {
+            let any = rng.byte();
+            let byte = rng.pick(&[0x00, 0x11, 0x12, 0x21, 0x22, 0xff, any]);
+            if byte != 0x10 {
+                break byte;
+            }
+        };
+        let length = rng.length(1, bytes.len());
+        bytes.truncate(length);
+    }
+    Damage {
+        bytes,
+        refusal,
+        place: 0,
+    }
+}
+
+/// A byte that is no command, with or without something behind it.
+fn unknown_command(rng: &mut Rng, tail: &[u8]) -> Vec<u8> {
+    let byte = loop {
+        let any = rng.byte();
+        let byte = rng.pick(&[0x10, 0x11, 0x20, 0x23, 0x24, 0xfe, any]);
+        if ![0x21, 0x22, 0xff].contains(&byte) {
+            break byte;
+        }
+    };
+    let length = rng.length(0, tail.len());
+    [&[byte], &tail[..length]].concat()
+}
+
+/// A list that ends inside a command or inside the opening.
+fn cut_inside(rng: &mut Rng, mut bytes: Vec<u8>, edges: &[[u8; 3]]) -> Damage {
+    let mut place = bytes.len();
+    if rng.chance(10) {
+        bytes.truncate(1);
+        place = 0;
+    } else {
+        let next = [rng.pick(&[0x21, 0x22]), rng.pick(&[0xff, edges[0][1]])];
+        let length = rng.length(1, 2);
+        bytes.extend(&next[..length]);
+    }
+    Damage {
+        bytes,
+        refusal: 4,
+        place,
+    }
+}
+
+/// A command with an operand from n up (5), with equal operands (6), or with an edge that an earlier one gave (7).
+fn bad_operands(rng: &mut Rng, refusal: u64, graph: &SignedGraph, given: &[[u8; 3]]) -> [u8; 3] {
+    let command = rng.pick(&[0x21, 0x22]);
+    let inside = rng.below(graph.n) as u8;
+    match refusal {
+        5 => {
+            let any = rng.between(graph.n, 255) as u8;
+            let outside = rng.pick(&[graph.n as u8, 64, 255, any]);
+            match rng.below(4) {
+                0 => [command, outside, outside],
+                1 => [command, outside, inside],
+                _ => [command, inside, outside],
+            }
+        }
+        6 => [command, inside, inside],
+        _ => {
+            let [_, a, b] = rng.pick(given);
+            if rng.chance(50) {
+                [command, a, b]
+            } else {
+                [command, b, a]
+            }
+        }
+    }
+}
+
+/// A list with one to three changes of bytes.
+pub fn mutated(rng: &mut Rng, mut bytes: Vec<u8>) -> Vec<u8> {
+    for _ in 0..rng.between(1, 3) {
+        let length = bytes.len();
+        let at = rng.length(0, length);
+        match rng.below(6) {
+            0 | 1 if at < length => bytes[at] ^= 1 << rng.below(8),
+            2 if at < length => bytes[at] = rng.pick(&[0x00, 0x01, 0x10, 0x21, 0x22, 0xff]),
+            3 => bytes.insert(at, rng.pick(&[0x00, 0x10, 0x21, 0x22, 0x40, 0xff])),
+            4 if at < length => {
+                bytes.remove(at);
+            }
+            5 if rng.chance(50) => bytes.truncate(at),
+            _ => bytes.push(rng.byte()),
+        }
+    }
+    bytes
+}
+
+/// Bytes at random, most with an opening and with many command bytes.
+pub fn random_bytes(rng: &mut Rng) -> Vec<u8> {
+    let length = rng.length(0, 40);
+    let like_a_list = rng.chance(70);
+    let mut bytes: Vec<u8> = (0..length)
+        .map(|_| match rng.below(3) {
+            _ if !like_a_list => rng.byte(),
+            0 => rng.pick(&[0x21, 0x22, 0xff]),
+            1 => rng.below(6) as u8,
+            _ => rng.byte() & 0x43,
+        })
+        .collect();
+    if like_a_list {
+        let opening = [0x10, rng.below(66) as u8];
+        bytes.splice(0..0, opening);
+    }
+    bytes
+}

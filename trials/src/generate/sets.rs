@@ -1,0 +1,100 @@
+//! Sets, thresholds, bookmarks and buffer lengths.
+
+use super::random::Rng;
+use crate::reference::{split, Bookmark, SignedGraph};
+
+/// A threshold; most are small, and some are over 32.
+pub fn threshold(rng: &mut Rng) -> u64 {
+    match rng.below(20) {
+        0 => rng.below(33),
+        1 => rng.pick(&[31, 32]),
+        2 => over_most(rng),
+        _ => rng.pick(&[0, 0, 1, 1, 1, 2, 2, 3, 4, 5]),
+    }
+}
+
+/// A threshold over 32.
+pub fn over_most(rng: &mut Rng) -> u64 {
+    match rng.below(3) {
+        0 => 33,
+        1 => rng.between(33, 40),
+        _ => rng.pick(&[1 << 32, (1 << 32) + 1, 1 << 63, u64::MAX]),
+    }
+}
+
+/// A buffer's length; those around one and two records come up often.
+pub fn buffer_length(rng: &mut Rng) -> usize {
+    match rng.below(4) {
+        0 | 1 => rng.pick(&[0, 1, 15, 16, 17, 31, 32, 33]),
+        2 => rng.length(0, 200),
+        _ => rng.length(0, 6000),
+    }
+}
+
+/// A balanced set, grown vertex by vertex in a random order; often one that nothing can be added to.
+pub fn balanced_set(rng: &mut Rng, graph: &SignedGraph) -> u64 {
+    let mut order: Vec<u64> = (0..graph.n).collect();
+    rng.shuffle(&mut order);
+    let limit = if rng.chance(70) { 64 } else { rng.below(8) };
+    let mut set = 0u64;
+    for v in order {
+        let larger = set | 1 << v;
+        if u64::from(set.count_ones()) < limit && split(graph, larger).is_some() {
+            set = larger;
+        }
+    }
+    set
+}
+
+/// A set whose members all have edges with each other, of any sign.
+fn joined_set(rng: &mut Rng, graph: &SignedGraph) -> u64 {
+    let mut order: Vec<u64> = (0..graph.n).collect();
+    rng.shuffle(&mut order);
+    let limit = rng.between(3, 12);
+    let mut set = 0u64;
+    for v in order {
+        let partners = graph.positive[v as usize] | graph.negative[v as usize];
+        if u64::from(set.count_ones()) < limit && set & !partners == 0 {
+            set |= 1 << v;
+        }
+    }
+    set
+}
+
+/// A set near a balanced one, one of joined vertices, or any set.
+pub fn set_to_classify(rng: &mut Rng, graph: &SignedGraph) -> u64 {
+    let set = balanced_set(rng, graph);
+    let one = 1u64 << rng.below(64);
+    let inside = 1u64 << rng.below(graph.n.max(1));
+    match rng.below(12) {
+        0..=2 => set,
+        3 => set & !(set & set.wrapping_neg()),
+        4 => set & !one,
+        5 | 6 => set | inside,
+        7 => set | one,
+        8 => rng.pick(&[0, u64::MAX, one, one | 1]),
+        9 => rng.next() & rng.next() & rng.next(),
+        _ => joined_set(rng, graph),
+    }
+}
+
+/// A bookmark: the start, a group's own, one near a group, or any.
+pub fn bookmark(rng: &mut Rng, graph: &SignedGraph, groups: &[(u64, u64)]) -> Bookmark {
+    let set = if groups.is_empty() {
+        balanced_set(rng, graph)
+    } else {
+        let (left, right) = rng.pick(groups);
+        left | right
+    };
+    let one = 1u64 << rng.below(64);
+    Bookmark::After(match rng.below(12) {
+        0..=2 => return Bookmark::Start,
+        3..=5 => set,
+        6 => set & !one,
+        7 => set | one,
+        8 => set | 1 << rng.between(graph.n.min(63), 63),
+        9 => rng.pick(&[0, u64::MAX, one, 1 << 63]),
+        10 => rng.next() & rng.next(),
+        _ => rng.next(),
+    })
+}

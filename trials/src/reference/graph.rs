@@ -1,0 +1,100 @@
+//! Signed graphs and what makes one sound.
+
+/// The most vertices that a graph has.
+pub const MOST_VERTICES: u64 = 64;
+
+/// A signed graph (sheet) of n vertices (paths): for each vertex the set of its positive (tracking) partners and of its
+/// negative (opposing) partners.
+#[derive(Clone, PartialEq, Eq, Debug)]
+pub struct SignedGraph {
+    pub n: u64,
+    pub positive: [u64; 64],
+    pub negative: [u64; 64],
+}
+
+/// Whether vertex v is in the set.
+pub fn holds(set: u64, v: u64) -> bool {
+    v < 64 && (set >> v) & 1 == 1
+}
+
+/// The vertices of a set, ascending.
+pub fn vertices(set: u64) -> Vec<u64> {
+    (0..64).filter(|&v| holds(set, v)).collect()
+}
+
+impl SignedGraph {
+    /// The graph of n vertices with no edge; of no vertices where n is over the most.
+    pub fn new(n: u64) -> SignedGraph {
+        SignedGraph {
+            n: if n > MOST_VERTICES { 0 } else { n },
+            positive: [0; 64],
+            negative: [0; 64],
+        }
+    }
+
+    /// Whether u and v have a positive edge (track).
+    pub fn is_positive(&self, u: u64, v: u64) -> bool {
+        holds(self.positive[u as usize], v)
+    }
+
+    /// Whether u and v have a negative edge (oppose).
+    pub fn is_negative(&self, u: u64, v: u64) -> bool {
+        holds(self.negative[u as usize], v)
+    }
+
+    /// Whether u and v have an edge (are a given pair).
+    pub fn is_edge(&self, u: u64, v: u64) -> bool {
+        self.is_positive(u, v) || self.is_negative(u, v)
+    }
+
+    /// Adds an edge in both rows.
+    pub fn add(&mut self, u: u64, v: u64, positive: bool) {
+        let rows = if positive {
+            &mut self.positive
+        } else {
+            &mut self.negative
+        };
+        rows[u as usize] |= 1 << v;
+        rows[v as usize] |= 1 << u;
+    }
+
+    /// Takes an edge of either sign out of both rows.
+    pub fn remove(&mut self, u: u64, v: u64) {
+        for rows in [&mut self.positive, &mut self.negative] {
+            rows[u as usize] &= !(1 << v);
+            rows[v as usize] &= !(1 << u);
+        }
+    }
+
+    /// Whether the graph is sound: partners are mutual with the same sign, never of both signs, never the vertex itself,
+    /// and no vertex from n up is or has one.
+    pub fn is_sound(&self) -> bool {
+        if self.n > MOST_VERTICES {
+            return false;
+        }
+        for u in 0..64 {
+            for v in 0..64 {
+                let edge = self.is_edge(u, v);
+                let both = self.is_positive(u, v) && self.is_negative(u, v);
+                let mutual = self.is_positive(u, v) == self.is_positive(v, u)
+                    && self.is_negative(u, v) == self.is_negative(v, u);
+                let foreign = u >= self.n || v >= self.n;
+                if !mutual || both || (edge && (u == v || foreign)) {
+                    return false;
+                }
+            }
+        }
+        true
+    }
+}
+
+/// The refusals that every call on a graph with a threshold begins with.
+pub fn check(graph: &SignedGraph, k: u64) -> Result<(), u64> {
+    if !graph.is_sound() {
+        Err(10)
+    } else if k > 32 {
+        Err(11)
+    } else {
+        Ok(())
+    }
+}

@@ -1,0 +1,17 @@
+//! A second implementation of the whole product, written for clearness and by other methods than the library's.
+
+mod classify;
+mod edge_list;
+mod graph;
+mod groups;
+mod pages;
+mod program;
+mod reduce;
+
+pub use classify::{classify, Verdict};
+pub use edge_list::{decode, encode};
+pub use graph::{check, SignedGraph};
+pub use groups::{groups, groups_by_cover, groups_by_subsets, meets, split};
+pub use pages::{comes_before, largest, list_page, page_of, record_at, Bookmark, Page};
+pub use program::program;
+pub use reduce::{fits, reduce};

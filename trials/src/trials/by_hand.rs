@@ -1,0 +1,126 @@
+//! Cases worked out by hand, which hold the reference itself.
+
+use super::reference::edges;
+use crate::reference::*;
+
+/// Checks the reference on all of them.
+pub fn check() -> Result<(), String> {
+    worked_books()?;
+    worked_graphs()
+}
+
+/// The graph A of the worked cases.
+const A: [u8; 27] = [
+    0x10, 5, 0x21, 0, 1, 0x22, 0, 2, 0x22, 0, 3, 0x21, 0, 4, 0x22, 1, 2, 0x22, 1, 3, 0x21, 2, 3,
+    0x22, 2, 4, 0xff,
+];
+
+/// Three vertices, all edges negative.
+const THREE: [u8; 12] = [0x10, 3, 0x22, 0, 1, 0x22, 0, 2, 0x22, 1, 2, 0xff];
+
+/// An edge list and what decoding it must give: a refusal and its place, or nothing.
+type Book = (&'static [u8], Option<(u64, usize)>);
+
+const BOOKS: [Book; 13] = [
+    (&[0x10, 0, 0xff], None),
+    (&[], Some((1, 0))),
+    (&[0x10], Some((4, 0))),
+    (&[0x10, 0x41], Some((2, 0))),
+    (&[0x10, 0x40, 0xff], None),
+    (&[0x10, 2, 0x21, 0], Some((4, 2))),
+    (&[0x10, 2, 0x21, 0, 2, 0xff], Some((5, 2))),
+    (&[0x10, 2, 0x21, 1, 1, 0xff], Some((6, 2))),
+    (&[0x10, 2, 0x21, 0, 1, 0x22, 1, 0, 0xff], Some((7, 5))),
+    (&[0x10, 2, 0x21, 0, 1], Some((8, 5))),
+    (&[0x10, 2, 0xff, 0], Some((9, 3))),
+    (&[0x10, 2, 0x10, 2, 0xff], Some((3, 2))),
+    (&[0x10, 2, 0x21, 0, 0xff], Some((5, 2))),
+];
+
+fn worked_books() -> Result<(), String> {
+    for (bytes, must) in BOOKS {
+        if decode(bytes).err() != must {
+            return Err(format!("{bytes:x?} must be {must:?}"));
+        }
+    }
+    Ok(())
+}
+
+/// Inputs of the program and what it must print.
+fn worked_outputs() -> Vec<(u8, Vec<u8>, &'static str)> {
+    let a = A.to_vec();
+    let path = vec![0x10, 3, 0x21, 0, 1, 0x21, 1, 2, 0xff];
+    vec![
+        (0, vec![0x10, 0, 0xff], "biggest none\ngroups 0\n"),
+        (0, vec![0x10, 1, 0xff], "0 |\nbiggest 0 |\ngroups 1\n"),
+        (1, vec![0x10, 1, 0xff], "biggest none\ngroups 0\n"),
+        (
+            1,
+            THREE.to_vec(),
+            "0 | 1\n0 | 2\n1 | 2\nbiggest 0 | 1\ngroups 3\n",
+        ),
+        (0, path, "0 1 |\n1 2 |\nbiggest 0 1 |\ngroups 2\n"),
+        (
+            1,
+            a.clone(),
+            "0 1 | 2 3\n0 4 | 2\nbiggest 0 1 | 2 3\ngroups 2\n",
+        ),
+        (2, a.clone(), "0 1 | 2 3\nbiggest 0 1 | 2 3\ngroups 1\n"),
+        (3, a.clone(), "biggest none\ngroups 0\n"),
+        (33, a, "refused 11\n"),
+        (255, vec![0x10], "refused 4 at 0\n"),
+    ]
+}
+
+fn worked_graphs() -> Result<(), String> {
+    for (k, list, must) in worked_outputs() {
+        let input = [vec![k], list].concat();
+        let printed = program(&input);
+        if printed != must {
+            return Err(format!("{input:x?} prints {printed}"));
+        }
+    }
+    let a = decode(&A).expect("A is valid");
+    let three = decode(&THREE).expect("three vertices are valid");
+    let judged = [
+        (&a, 1, 0b10011, Verdict::MissingEdge(1, 4)),
+        (&a, 1, 0b00101, Verdict::Extensible(1)),
+        (&three, 1, 0b111, Verdict::Unbalanced(0, 1, 2)),
+        (&a, 2, 0b10101, Verdict::TooSmall(2, 1)),
+    ];
+    for (graph, k, set, must) in judged {
+        if classify(graph, k, set) != Ok(must.clone()) {
+            return Err(format!("{set:b} for {k} must be {must:?}"));
+        }
+    }
+    let kept = |k| reduce(&a, k).map(|kept| edges(&kept).len());
+    if (kept(1), kept(2)) != (Ok(8), Ok(6)) {
+        return Err("A is reduced to other edges".to_string());
+    }
+    worked_pages(&a)
+}
+
+fn worked_pages(a: &SignedGraph) -> Result<(), String> {
+    let mut buffer = [0; 16];
+    let page = list_page(a, 1, Bookmark::After(0b1111), &mut buffer);
+    let must = Page {
+        number: 0,
+        count: 1,
+        next: Bookmark::After(0b10101),
+        finished: true,
+    };
+    if page != must || buffer[0] != 0b10001 || buffer[8] != 0b100 {
+        return Err(format!("after the first group of A comes {page:?}"));
+    }
+    for (length, count) in [(15, 0), (31, 1), (32, 2)] {
+        let page = list_page(a, 1, Bookmark::Start, &mut vec![0; length]);
+        if page.count != count {
+            return Err(format!("a buffer of {length} bytes takes {}", page.count));
+        }
+    }
+    let nothing = list_page(a, 1, Bookmark::After(0), &mut [0; 64]);
+    if nothing.count != 0 || !nothing.finished {
+        return Err("a group comes after the empty set".to_string());
+    }
+    Ok(())
+}

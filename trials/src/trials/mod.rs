@@ -1,0 +1,51 @@
+//! The trials: each compares one part of the library with the reference over many generated cases.
+
+mod arrays;
+mod by_hand;
+mod expect;
+mod many_groups;
+mod page_lists;
+mod program;
+mod reference;
+mod tally;
+mod with_graphs;
+mod with_lists;
+mod with_pages;
+mod worked;
+
+pub use tally::{panicked, Tally};
+
+/// A trial: its name, how many cases it has by default, and what runs it from a seed.
+pub struct Trial {
+    pub name: &'static str,
+    pub amount: u64,
+    pub run: fn(u64, u64) -> Result<Tally, String>,
+}
+
+const fn trial(
+    name: &'static str,
+    amount: u64,
+    run: fn(u64, u64) -> Result<Tally, String>,
+) -> Trial {
+    Trial { name, amount, run }
+}
+
+/// All trials; the longest come first, so that two threads share the work evenly.
+pub const TRIALS: [Trial; 16] = [
+    trial("program", 6_000, program::run),
+    trial("page_lists", 30_000, page_lists::run),
+    trial("many_groups", 60, many_groups::run),
+    trial("list_page", 100_000, with_pages::list_page),
+    trial("largest", 40_000, with_pages::largest),
+    trial("reference", 3_000, reference::run),
+    trial("classify", 150_000, with_graphs::classify),
+    trial("reduce", 150_000, with_graphs::reduce),
+    trial("decode", 150_000, with_lists::decode),
+    trial("encode", 60_000, with_lists::encode),
+    trial("round_trip", 60_000, with_lists::round_trip),
+    trial("new", 40_000, with_graphs::new),
+    trial("check_sound", 100_000, with_graphs::check_sound),
+    trial("check_call", 100_000, with_graphs::check_call),
+    trial("record_at", 100_000, with_pages::record_at),
+    trial("worked", 1, worked::run),
+];

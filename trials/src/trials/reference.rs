@@ -1,0 +1,102 @@
+//! The trial of the reference itself: its methods against plainer ones.
+
+use super::by_hand;
+use super::expect::words;
+use super::tally::{each_case, hex_words, Tally};
+use crate::generate::{small_graph, Rng};
+use crate::reference::*;
+
+pub fn run(seed: u64, amount: u64) -> Result<Tally, String> {
+    by_hand::check()?;
+    each_case("reference", seed, amount, |rng, tally| {
+        let graph = small_graph(rng);
+        one_graph(rng, tally, &graph)
+            .map_err(|fault| format!("{fault}: {}", hex_words(&words(&graph))))
+    })
+}
+
+fn one_graph(rng: &mut Rng, tally: &mut Tally, graph: &SignedGraph) -> Result<(), String> {
+    let all = groups_by_subsets(graph);
+    if all != groups_by_cover(graph) {
+        return Err("subsets and cover give different groups".to_string());
+    }
+    tally.add("groups", all.len() as u64);
+    let k = rng.below(5);
+    let due: Vec<(u64, u64)> = all.into_iter().filter(|&sides| meets(sides, k)).collect();
+    let reduced = reduce(graph, k).expect("the graph is sound");
+    if groups(&reduced, k) != due {
+        return Err(format!("reduced for {k} it has other groups"));
+    }
+    let set = rng.next() & ((1 << graph.n) - 1);
+    if split(graph, set) != split_by_trying(graph, set) {
+        return Err(format!("{set:x} has another split"));
+    }
+    for set in 0..1u64 << graph.n.min(8) {
+        let verdict = classify(graph, k, set).expect("the graph is sound");
+        let listed = due.iter().find(|(left, right)| left | right == set);
+        if listed.map(|&(left, right)| Verdict::Group(left, right))
+            != Some(verdict).filter(|verdict| matches!(verdict, Verdict::Group(..)))
+        {
+            return Err(format!("classify and listing differ on {set:x} for {k}"));
+        }
+    }
+    if graph.n <= 6 && edges(graph).len() <= 10 {
+        tally.count("reductions over all collections");
+        if reduced != union_of_fitting(graph, k) {
+            return Err(format!("reduced for {k} is not the largest that fits"));
+        }
+    }
+    Ok(())
+}
+
+/// The split of a set, found by trying every two sides.
+fn split_by_trying(graph: &SignedGraph, set: u64) -> Option<(u64, u64)> {
+    let mut right = set;
+    loop {
+        right = right.wrapping_sub(1) & set;
+        let left = set & !right;
+        let joined = |u: u64, v: u64| match (left >> u & 1) == (left >> v & 1) {
+            true => graph.is_positive(u, v),
+            false => graph.is_negative(u, v),
+        };
+        let members: Vec<u64> = (0..64).filter(|v| set >> v & 1 == 1).collect();
+        let fits = members
+            .iter()
+            .all(|&u| members.iter().all(|&v| u == v || joined(u, v)));
+        let lowest = set & set.wrapping_neg();
+        if fits && left & lowest == lowest {
+            return Some((left, right));
+        }
+        if right == 0 {
+            return None;
+        }
+    }
+}
+
+pub fn edges(graph: &SignedGraph) -> Vec<(u64, u64)> {
+    (0..graph.n)
+        .flat_map(|u| (u + 1..graph.n).map(move |v| (u, v)))
+        .filter(|&(u, v)| graph.is_edge(u, v))
+        .collect()
+}
+
+/// All edges that are in some collection that fits, every collection tried.
+fn union_of_fitting(graph: &SignedGraph, k: u64) -> SignedGraph {
+    let edges = edges(graph);
+    let mut union = SignedGraph::new(graph.n);
+    for chosen in 0..1u64 << edges.len() {
+        let mut part = graph.clone();
+        for (i, &(u, v)) in edges.iter().enumerate() {
+            if chosen >> i & 1 == 0 {
+                part.remove(u, v);
+            }
+        }
+        if fits(&part, k) {
+            for i in 0..64 {
+                union.positive[i] |= part.positive[i];
+                union.negative[i] |= part.negative[i];
+            }
+        }
+    }
+    union
+}

@@ -1,0 +1,137 @@
+//! Trials of the calls that take a graph and give no records: new, check_sound, check_call, classify, reduce.
+
+use super::arrays::{any_graph, graph_array, room, same};
+use super::expect::{self, graph_of, words};
+use super::tally::{each_case, hex_words, Tally};
+use crate::generate::{self, set_to_classify, threshold, unsound, UNSOUND_KINDS};
+use crate::interface::{self, GRAPH_WORDS};
+use crate::reference::{classify as classified, SignedGraph, Verdict};
+
+pub fn new(seed: u64, amount: u64) -> Result<Tally, String> {
+    let tally = each_case("new", seed, amount, |rng, tally| {
+        let n = match rng.below(4) {
+            0 => rng.next(),
+            1 => rng.pick(&[0, 1, 63, 64, 65, 128, 256, 1 << 32, u64::MAX]),
+            _ => rng.below(80),
+        };
+        let graph = room(rng, GRAPH_WORDS);
+        let must = expect::new(n, &graph);
+        tally.count_number(must.number);
+        let left = interface::new(rng, n, &graph);
+        same(|| format!("new n {n:x}"), left, &must)
+    })?;
+    tally.each_refused(&[101])?;
+    Ok(tally)
+}
+
+pub fn check_sound(seed: u64, amount: u64) -> Result<Tally, String> {
+    let tally = each_case("check_sound", seed, amount, |rng, tally| {
+        let graph = if rng.chance(50) {
+            generate::graph(rng)
+        } else {
+            let kind = rng.below(UNSOUND_KINDS);
+            let graph = unsound(rng, kind);
+            if graph.is_sound() {
+                return Err(format!("made sound: {}", hex_words(&words(&graph))));
+            }
+            tally.count(&format!("unsound of kind {kind}"));
+            graph
+        };
+        let graph = graph_array(rng, &graph);
+        let must = expect::check_sound(&graph);
+        tally.count_number(must.number);
+        let left = interface::check_sound(rng, &graph);
+        same(|| format!("check_sound {}", hex_words(&graph)), left, &must)
+    })?;
+    tally.each_refused(&[10, 101])?;
+    Ok(tally)
+}
+
+pub fn check_call(seed: u64, amount: u64) -> Result<Tally, String> {
+    let tally = each_case("check_call", seed, amount, |rng, tally| {
+        let graph = any_graph(rng);
+        let graph = graph_array(rng, &graph);
+        let k = threshold(rng);
+        let must = expect::check_call(&graph, k);
+        tally.count_number(must.number);
+        let left = interface::check_call(rng, &graph, k);
+        same(
+            || format!("check_call {} k {k:x}", hex_words(&graph)),
+            left,
+            &must,
+        )
+    })?;
+    tally.each_refused(&[10, 11, 101])?;
+    Ok(tally)
+}
+
+pub fn classify(seed: u64, amount: u64) -> Result<Tally, String> {
+    let tally = each_case("classify", seed, amount, |rng, tally| {
+        let graph = any_graph(rng);
+        let k = if rng.chance(40) { 0 } else { threshold(rng) };
+        let set = if graph.is_sound() {
+            set_to_classify(rng, &graph)
+        } else {
+            rng.next()
+        };
+        if let Ok(verdict) = classified(&graph, k, set) {
+            tally.count(verdict_name(&verdict));
+        }
+        let graph = graph_array(rng, &graph);
+        let answer = room(rng, 4);
+        let must = expect::classify(&graph, k, set, &answer);
+        tally.count_number(must.number);
+        let left = interface::classify(rng, &graph, k, set, &answer);
+        same(
+            || format!("classify {} k {k:x} set {set:x}", hex_words(&graph)),
+            left,
+            &must,
+        )
+    })?;
+    tally.each_refused(&[10, 11, 101, 102])?;
+    Ok(tally)
+}
+
+fn verdict_name(verdict: &Verdict) -> &'static str {
+    match verdict {
+        Verdict::Empty => "empty",
+        Verdict::OutOfRange(_) => "out of range",
+        Verdict::MissingEdge(..) => "missing an edge",
+        Verdict::Unbalanced(..) => "unbalanced",
+        Verdict::TooSmall(..) => "too small",
+        Verdict::Extensible(_) => "extensible",
+        Verdict::Group(..) => "groups",
+    }
+}
+
+pub fn reduce(seed: u64, amount: u64) -> Result<Tally, String> {
+    let tally = each_case("reduce", seed, amount, |rng, tally| {
+        let graph = any_graph(rng);
+        let graph = graph_array(rng, &graph);
+        let k = threshold(rng);
+        let reduced = room(rng, GRAPH_WORDS);
+        let must = expect::reduce(&graph, k, &reduced);
+        tally.count_number(must.number);
+        if must.number == 0 {
+            tally.count(what_was_cut(&graph_of(&graph), &graph_of(&must.graph)));
+        }
+        let left = interface::reduce(rng, &graph, k, &reduced);
+        same(
+            || format!("reduce {} k {k:x}", hex_words(&graph)),
+            left,
+            &must,
+        )
+    })?;
+    tally.each_refused(&[10, 11, 101])?;
+    Ok(tally)
+}
+
+fn what_was_cut(graph: &SignedGraph, reduced: &SignedGraph) -> &'static str {
+    if reduced == graph {
+        "left whole"
+    } else if *reduced == SignedGraph::new(graph.n) {
+        "left without edges"
+    } else {
+        "left with some edges"
+    }
+}
