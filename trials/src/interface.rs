@@ -7,9 +7,7 @@ mod c;
 mod lent;
 
 use crate::generate::Rng;
-use lent::Lent;
-
-pub use lent::noise;
+pub use lent::{noise, Lent};
 
 /// The words of a graph.
 pub const GRAPH_WORDS: usize = 129;

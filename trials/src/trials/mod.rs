@@ -3,6 +3,8 @@
 mod arrays;
 mod by_hand;
 mod expect;
+mod guards;
+mod header;
 mod many_groups;
 mod page_lists;
 mod program;
@@ -31,7 +33,7 @@ const fn trial(
 }
 
 /// All trials; the longest come first, so that two threads share the work evenly.
-pub const TRIALS: [Trial; 16] = [
+pub const TRIALS: [Trial; 18] = [
     trial("program", 6_000, program::run),
     trial("page_lists", 30_000, page_lists::run),
     trial("many_groups", 60, many_groups::run),
@@ -48,4 +50,6 @@ pub const TRIALS: [Trial; 16] = [
     trial("check_call", 100_000, with_graphs::check_call),
     trial("record_at", 100_000, with_pages::record_at),
     trial("worked", 1, worked::run),
+    trial("header", 1, header::run),
+    trial("guards", 10_000, guards::run),
 ];
