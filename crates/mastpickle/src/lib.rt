@@ -7,7 +7,6 @@ use listing::End;
 use listing::Finding;
 use listing::Page;
 use signed_graph::Check;
-use signed_graph::Refusal;
 use signed_graph::SignedGraph;
 ghost use mathlib.Core.Path.{_≡_};
 ghost use Prim.Native.Nat.{_≤_, min};

@@ -1,5 +1,5 @@
 -- `mastpickle::mastpickle_largest` meets its contract. Assumes nothing.
-use mathlib.Core.Path.{_≡_, ap, _∙_}
+use mathlib.Core.Path.{ap, _∙_}
 use borrow.Author.Needs.{needs}
 use Rattle.vertex_set.specs.Buffers.{overwritten}
 use Rattle.signed_graph.specs.declared.SignedGraph.{SignedGraph}
