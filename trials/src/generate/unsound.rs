@@ -18,9 +18,10 @@ fn sound(rng: &mut Rng, low: u64, high: u64) -> SignedGraph {
     SignedGraph::new(rng.between(low, high))
 }
 
-/// Two different numbers below n.
+/// Two different numbers below n; the first is often the lowest or the highest.
 fn two(rng: &mut Rng, n: u64) -> (usize, usize) {
-    let u = rng.below(n);
+    let any = rng.below(n);
+    let u = rng.pick(&[0, any, any, n - 1]);
     let v = (u + 1 + rng.below(n - 1)) % n;
     (u as usize, v as usize)
 }
