@@ -66,6 +66,11 @@ pub fn damaged(rng: &mut Rng, refusal: u64) -> Damage {
     let tail = scrambled(rng, &graph).split_off(2);
     match refusal {
         1 | 2 => return damaged_opening(rng, refusal, bytes),
+        3 if rng.chance(15) => {
+            // a second opening
+            bytes.extend([0x10, graph.n as u8]);
+            bytes.extend(tail);
+        }
         3 => bytes.extend(unknown_command(rng, &tail)),
         4 => return cut_inside(rng, bytes, &edges),
         5..=7 => {

@@ -23,7 +23,8 @@ pub fn graph(rng: &mut Rng) -> SignedGraph {
         10 => two_sides(rng),
         11 => parts(rng),
         12 => complete_balanced(rng),
-        13 => SignedGraph::new(size(rng, 64)),
+        13 if rng.chance(50) => SignedGraph::new(size(rng, 64)),
+        13 => thin(rng),
         14 => sparse_signs(rng),
         _ => small_graph(rng),
     }
@@ -33,6 +34,7 @@ pub fn graph(rng: &mut Rng) -> SignedGraph {
 pub fn rich_graph(rng: &mut Rng) -> SignedGraph {
     let n = rng.between(12, 64);
     match rng.below(4) {
+        0 if rng.chance(1) => many_groups(rng),
         0 => parts(rng),
         1 => planted(rng),
         _ => {
@@ -164,7 +166,8 @@ fn planted(rng: &mut Rng) -> SignedGraph {
         let most = rng.pick(&[10, 14, 24]).min(n as usize);
         let members = rng.length(4, most);
         let set = order[..members].iter().fold(0, |set, &v| set | 1 << v);
-        let mut clique = balanced_on(n, set, rng.next());
+        let side = any_side(rng);
+        let mut clique = balanced_on(n, set, side);
         let noise = rng.pick(&[0, 0, 2, 5, 15]);
         sign_noise(rng, &mut clique, noise);
         for u in 0..n {
@@ -233,7 +236,7 @@ fn parts(rng: &mut Rng) -> SignedGraph {
 /// One balanced clique on all vertices, with a few edges taken out or flipped; now and then of two sides of 32.
 fn complete_balanced(rng: &mut Rng) -> SignedGraph {
     let n = if rng.chance(30) { 64 } else { size(rng, 64) };
-    let any = rng.next();
+    let any = any_side(rng);
     let side = rng.pick(&[any, any, 0x5555_5555_5555_5555, 0xffff_ffff]);
     let mut graph = balanced_on(n, u64::MAX, side);
     if n < 2 {
@@ -255,4 +258,48 @@ fn sparse_signs(rng: &mut Rng) -> SignedGraph {
     let n = size(rng, 22);
     let negative = rng.pick(&[3, 10, 90, 97]);
     with_density(rng, n, 100, negative)
+}
+
+/// A forest: most vertices have an edge with the one before or with any earlier one.
+fn thin(rng: &mut Rng) -> SignedGraph {
+    let n = size(rng, 64);
+    let (density, near) = (rng.between(40, 100), rng.below(101));
+    let mut graph = SignedGraph::new(n);
+    for v in 1..n {
+        if rng.chance(density) {
+            let u = if rng.chance(near) {
+                v - 1
+            } else {
+                rng.below(v)
+            };
+            let positive = rng.chance(50);
+            graph.add(u, v, positive);
+        }
+    }
+    graph
+}
+
+/// A graph with more groups than fit into 65,536 bytes: parts of two to four, all edges between them.
+fn many_groups(rng: &mut Rng) -> SignedGraph {
+    let part = rng.between(2, 4);
+    let n = [26, 24, 28][part as usize - 2];
+    let side = rng.next();
+    let mut graph = balanced_on(n, u64::MAX, side);
+    for u in 0..n {
+        for v in u + 1..n {
+            if u / part == v / part {
+                graph.remove(u, v);
+            }
+        }
+    }
+    graph
+}
+
+/// Which vertices are on one side: about half of them, a few or one.
+fn any_side(rng: &mut Rng) -> u64 {
+    match rng.below(4) {
+        0 => 1 << rng.below(64),
+        1 => rng.next() & rng.next() & rng.next(),
+        _ => rng.next(),
+    }
 }

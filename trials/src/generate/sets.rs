@@ -24,9 +24,10 @@ pub fn over_most(rng: &mut Rng) -> u64 {
 
 /// A buffer's length; those around one and two records come up often.
 pub fn buffer_length(rng: &mut Rng) -> usize {
-    match rng.below(4) {
-        0 | 1 => rng.pick(&[0, 1, 15, 16, 17, 31, 32, 33]),
-        2 => rng.length(0, 200),
+    match rng.below(64) {
+        0..=31 => rng.pick(&[0, 1, 15, 16, 17, 31, 32, 33]),
+        32..=47 => rng.length(0, 200),
+        48 => rng.length(6000, 100_000),
         _ => rng.length(0, 6000),
     }
 }

@@ -120,11 +120,7 @@ fn ties(graph: &SignedGraph, k: u64, size: u32) -> &'static str {
 
 pub fn record_at(seed: u64, amount: u64) -> Result<Tally, String> {
     let tally = each_case("record_at", seed, amount, |rng, tally| {
-        let length = if rng.below(200) == 0 {
-            rng.length(60_000, 200_000)
-        } else {
-            buffer_length(rng)
-        };
+        let length = buffer_length(rng);
         let listing: Vec<u8> = noise(rng, length);
         let records = listing.len() as u64 / 16;
         let i = match rng.below(5) {
