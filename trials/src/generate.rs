@@ -9,5 +9,5 @@ mod unsound;
 pub use edge_lists::{damaged, edge_list, mutated, random_bytes, scrambled};
 pub use graphs::{dense_graph, graph, rich_graph, small_graph};
 pub use random::Rng;
-pub use sets::{bookmark, buffer_length, over_most, set_to_classify, threshold};
+pub use sets::{bookmark, buffer_length, over_most, set_to_classify, threshold, threshold_near};
 pub use unsound::{unsound, UNSOUND_KINDS};

@@ -163,12 +163,17 @@ fn planted(rng: &mut Rng) -> SignedGraph {
     for _ in 0..rng.between(1, 3) {
         let mut order: Vec<u64> = (0..n).collect();
         rng.shuffle(&mut order);
-        let most = rng.pick(&[10, 14, 24]).min(n as usize);
+        let most = rng.pick(&[10, 14, 24, 50]).min(n as usize);
         let members = rng.length(4, most);
         let set = order[..members].iter().fold(0, |set, &v| set | 1 << v);
         let side = any_side(rng);
         let mut clique = balanced_on(n, set, side);
-        let noise = rng.pick(&[0, 0, 2, 5, 15]);
+        // A large clique with many faults would have too many groups.
+        let noise = if members > 24 {
+            rng.pick(&[0, 0, 1])
+        } else {
+            rng.pick(&[0, 0, 2, 5, 15])
+        };
         sign_noise(rng, &mut clique, noise);
         for u in 0..n {
             for v in u + 1..n {

@@ -13,6 +13,12 @@ pub fn threshold(rng: &mut Rng) -> u64 {
     }
 }
 
+/// A threshold near the size of the smaller of two sides.
+pub fn threshold_near(rng: &mut Rng, sides: (u64, u64)) -> u64 {
+    let smaller = sides.0.count_ones().min(sides.1.count_ones());
+    u64::from(smaller) + rng.below(2)
+}
+
 /// A threshold over 32.
 pub fn over_most(rng: &mut Rng) -> u64 {
     match rng.below(3) {
@@ -67,7 +73,9 @@ pub fn set_to_classify(rng: &mut Rng, graph: &SignedGraph) -> u64 {
     let set = balanced_set(rng, graph);
     let one = 1u64 << rng.below(64);
     let inside = 1u64 << rng.below(graph.n.max(1));
-    match rng.below(12) {
+    let below_highest = u64::MAX.checked_shr(set.leading_zeros() + 1).unwrap_or(0);
+    match rng.below(13) {
+        12 => set & below_highest,
         0..=2 => set,
         3 => set & !(set & set.wrapping_neg()),
         4 => set & !one,

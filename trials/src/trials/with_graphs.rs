@@ -3,9 +3,9 @@
 use super::arrays::{any_graph, graph_array, room, same};
 use super::expect::{self, graph_of, words};
 use super::tally::{each_case, hex_words, Tally};
-use crate::generate::{self, set_to_classify, threshold, unsound, UNSOUND_KINDS};
+use crate::generate::{self, set_to_classify, threshold, threshold_near, unsound, UNSOUND_KINDS};
 use crate::interface::{self, GRAPH_WORDS};
-use crate::reference::{classify as classified, SignedGraph, Verdict};
+use crate::reference::{classify as classified, split, SignedGraph, Verdict};
 
 pub fn new(seed: u64, amount: u64) -> Result<Tally, String> {
     let tally = each_case("new", seed, amount, |rng, tally| {
@@ -68,11 +68,15 @@ pub fn check_call(seed: u64, amount: u64) -> Result<Tally, String> {
 pub fn classify(seed: u64, amount: u64) -> Result<Tally, String> {
     let tally = each_case("classify", seed, amount, |rng, tally| {
         let graph = any_graph(rng);
-        let k = if rng.chance(40) { 0 } else { threshold(rng) };
         let set = if graph.is_sound() {
             set_to_classify(rng, &graph)
         } else {
             rng.next()
+        };
+        let k = match split(&graph, set) {
+            Some(sides) if rng.chance(20) => threshold_near(rng, sides),
+            _ if rng.chance(40) => 0,
+            _ => threshold(rng),
         };
         if let Ok(verdict) = classified(&graph, k, set) {
             tally.count(verdict_name(&verdict));

@@ -3,7 +3,7 @@
 use super::arrays::{any_graph, graph_array, room, same};
 use super::expect::{self, graph_of};
 use super::tally::{each_case, hex, hex_words, Tally};
-use crate::generate::{bookmark, buffer_length, rich_graph, threshold, Rng};
+use crate::generate::{bookmark, buffer_length, rich_graph, threshold, threshold_near, Rng};
 use crate::interface::{self, noise, Place};
 use crate::reference::{groups, meets, SignedGraph};
 
@@ -39,7 +39,12 @@ fn one_page(
     graph: &SignedGraph,
     all: &[(u64, u64)],
 ) -> Result<(), String> {
-    let k = threshold(rng);
+    let k = if rng.chance(10) && !all.is_empty() {
+        let sides = rng.pick(all);
+        threshold_near(rng, sides)
+    } else {
+        threshold(rng)
+    };
     let due: Vec<(u64, u64)> = all.iter().copied().filter(|&g| meets(g, k)).collect();
     let from = place(rng, graph, &due);
     let array = graph_array(rng, graph);
