@@ -74,15 +74,16 @@ pub fn set_to_classify(rng: &mut Rng, graph: &SignedGraph) -> u64 {
     let one = 1u64 << rng.below(64);
     let inside = 1u64 << rng.below(graph.n.max(1));
     let below_highest = u64::MAX.checked_shr(set.leading_zeros() + 1).unwrap_or(0);
+    let last_two = 3 << graph.n.saturating_sub(2);
     match rng.below(13) {
-        12 => set & below_highest,
         0..=2 => set,
         3 => set & !(set & set.wrapping_neg()),
         4 => set & !one,
         5 | 6 => set | inside,
         7 => set | one,
-        8 => rng.pick(&[0, u64::MAX, one, one | 1]),
+        8 => rng.pick(&[0, u64::MAX, one, one | 1, last_two]),
         9 => rng.next() & rng.next() & rng.next(),
+        10 => set & below_highest,
         _ => joined_set(rng, graph),
     }
 }
