@@ -227,6 +227,11 @@ fn parts(rng: &mut Rng) -> SignedGraph {
     let part = rng.between(2, 4);
     let n = rng.between(part, [14, 21, 24][part as usize - 2]);
     let side = rng.pick(&[0, 0x5555_5555_5555_5555, 0x9999_6666_3333_cccc]);
+    in_parts(n, part, side)
+}
+
+/// The balanced graph of n vertices in parts of so many, with no edge inside a part and all edges between them.
+fn in_parts(n: u64, part: u64, side: u64) -> SignedGraph {
     let mut graph = balanced_on(n, u64::MAX, side);
     for u in 0..n {
         for v in u + 1..n {
@@ -288,16 +293,7 @@ fn thin(rng: &mut Rng) -> SignedGraph {
 fn many_groups(rng: &mut Rng) -> SignedGraph {
     let part = rng.between(2, 4);
     let n = [26, 24, 28][part as usize - 2];
-    let side = rng.next();
-    let mut graph = balanced_on(n, u64::MAX, side);
-    for u in 0..n {
-        for v in u + 1..n {
-            if u / part == v / part {
-                graph.remove(u, v);
-            }
-        }
-    }
-    graph
+    in_parts(n, part, rng.next())
 }
 
 /// Which vertices are on one side: about half of them, a few or one.

@@ -24,6 +24,14 @@ pub fn graph_of(words: &[u64]) -> SignedGraph {
     graph
 }
 
+/// The records of groups, joined.
+pub fn records(groups: &[(u64, u64)]) -> Vec<u8> {
+    groups
+        .iter()
+        .flat_map(|(left, right)| [left.to_le_bytes(), right.to_le_bytes()].concat())
+        .collect()
+}
+
 /// An array with its beginning replaced.
 fn with_start(array: &[u64], start: &[u64]) -> Vec<u64> {
     let mut array = array.to_vec();

@@ -1,6 +1,6 @@
 //! The trial of graphs with thousands of groups: the whole listing, in one call and by pages, and the largest group.
 
-use super::expect::words;
+use super::expect::{records, words};
 use super::tally::{each_case, hex_words, Tally};
 use crate::generate::{dense_graph, Rng};
 use crate::interface;
@@ -23,10 +23,7 @@ pub fn run(seed: u64, amount: u64) -> Result<Tally, String> {
 }
 
 fn one_graph(rng: &mut Rng, graph: &[u64], k: u64, due: &[(u64, u64)]) -> Result<(), String> {
-    let records: Vec<u8> = due
-        .iter()
-        .flat_map(|(left, right)| [left.to_le_bytes(), right.to_le_bytes()].concat())
-        .collect();
+    let records = records(due);
     if listed(rng, graph, k, records.len())? != records {
         return Err("one call lists other groups".to_string());
     }

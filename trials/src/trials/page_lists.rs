@@ -1,6 +1,6 @@
 //! The trial of whole lists of page calls, as the third demand has them.
 
-use super::expect::words;
+use super::expect::{records, words};
 use super::tally::{each_case, hex, Tally};
 use crate::generate::{
     buffer_length, edge_list, over_most, rich_graph, scrambled, unsound, Rng, UNSOUND_KINDS,
@@ -82,13 +82,6 @@ fn begin(rng: &mut Rng, list: &[u8], k: u64) -> Result<Listing, String> {
         places: 0,
         joined: Vec::new(),
     })
-}
-
-fn records(groups: &[(u64, u64)]) -> Vec<u8> {
-    groups
-        .iter()
-        .flat_map(|(left, right)| [left.to_le_bytes(), right.to_le_bytes()].concat())
-        .collect()
 }
 
 /// A call that is not refused: with S or S reduced.
