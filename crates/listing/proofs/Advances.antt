@@ -2,11 +2,11 @@
 use Prim.Native.Nat.{ℕ, _^_, _<_}
 use native.Mathlib.Omega.{arith}
 use mathlib.Core.Path.{_≡_, refl}
-use mathlib.Core.Bool.{true, false}
+use mathlib.Core.Bool.{Bool, true, false}
 use mathlib.Core.List.{List}
 use lib.Bits.{bitAnd, bitOr}
 use borrow.Author.Tests.{not-true}
-use Rattle.vertex_set.specs.Sets.{mem, lowest}
+use Rattle.vertex_set.specs.Sets.{mem, Subset, lowest}
 use Rattle.vertex_set.proofs.Booleans.{clash}
 use Rattle.vertex_set.proofs.Membership.{union-cases, meet-left, meet-right}
 use Rattle.vertex_set.proofs.LowestVertex.{lowest-in}
@@ -16,12 +16,52 @@ use Rattle.signed_graph.proofs.Soundness.{Sound, to-sound}
 use Rattle.clique.proofs.Balance.{usable-64}
 use Rattle.listing.specs.declared.Fitting.{Fitting}
 use Rattle.listing.specs.declared.Node.{Node}
-use Rattle.listing.specs.Nodes.{short, Valid, Universal, on-left, on-right}
-use Rattle.listing.specs.Search.{FreeSides, Settles, Advances}
-use Rattle.listing.proofs.Prunes.{short-barren, dominated-left, dominated-right}
+use Rattle.listing.specs.declared.Progress.{Progress}
+use Rattle.listing.specs.Nodes.{undecided, short, Valid, Universal, on-left, on-right, Sole, Same}
+use Rattle.listing.specs.Search.{InSound, FreeSides, Requires, HeldByAll, Settles, Advances}
+use Rattle.listing.proofs.Prunes.{short-barren, dominated-left, dominated-right, universal-held, required-left, required-right}
+use Rattle.listing.proofs.Settling.{same-self, same-then}
+
+-- ---- what every group below holds
+
+module _ (positive negative : List ℕ) (d : Node) (free : Fitting) (fr : FreeSides positive negative d free) where
+  -- the candidates that are free
+  abbrev leftIn : ℕ
+  leftIn = bitAnd (free .near) (d .left .candidates)
+
+  abbrev rightIn : ℕ
+  rightIn = bitAnd (free .far) (d .right .candidates)
+
+  free-universal : (u : ℕ) → mem u (bitOr leftIn rightIn) ≡ true → Universal positive negative d u
+  free-universal u m =
+      union-cases (Universal positive negative d u) u leftIn rightIn m
+      (λ x. on-left (meet-right u (free .near) (d .left .candidates) x)
+      (fr .left u (meet-left u (free .near) (d .left .candidates) x)))
+      (λ x. on-right (meet-right u (free .far) (d .right .candidates) x)
+      (fr .right u (meet-left u (free .far) (d .right .candidates) x)))
+
+  -- these, and those that alone keep a vertex that was left out from joining
+  pub held-by-all : (a b l r : ℕ)
+      → Requires positive negative (bitAnd (d .left .excluded) a) (d .left .candidates) (d .right .candidates) l
+      → Requires positive negative (bitAnd (d .right .excluded) b) (d .right .candidates) (d .left .candidates) r
+      → HeldByAll positive negative d (bitOr (bitOr (bitOr leftIn rightIn) l) r)
+  held-by-all a b l r by-left by-right n so va k u m x lx below =
+      let s = to-sound _ so in
+      union-cases (mem u (x .vertices) ≡ true) u (bitOr (bitOr leftIn rightIn) l) r m
+      (λ i. union-cases (mem u (x .vertices) ≡ true) u (bitOr leftIn rightIn) l i
+      (λ j. universal-held _ s k d va u x lx below (free-universal u j))
+      (λ j. required-left _ s k d va u x lx below (sole-of (d .left .excluded) a (by-left u j))))
+      (λ i. required-right _ s k d va u x lx below (sole-of (d .right .excluded) b (by-right u i)))
+    where
+      sole-of : (out hint : ℕ) {near far : ℕ} → Sole positive negative (bitAnd out hint) near far u
+          → Sole positive negative out near far u
+      sole-of out hint e =
+          record { by = e .by; out = meet-left (e .by) out hint (e .out); same = e .same; cross = e .cross }
+
+-- ---- a step
 
 module _ (positive negative : List ℕ) (k : ℕ) (d : Node) where
-  pub advance-short : short k d ≡ true → Advances positive negative k d (record { barren = true; node = d })
+  pub advance-short : short k d ≡ true → Advances positive negative k d (record { barren = true; moved = false; node = d })
   unfolding short
   advance-short e n so va = (λ _. short-barren _ (to-sound _ so) k d (not-true _ e), λ f. clash true refl f)
 
@@ -40,7 +80,7 @@ module _ (positive negative : List ℕ) (k : ℕ) (d : Node) where
         (λ x. va .right .out p (meet-right p (free .far) (d .right .excluded) x) .usable))
 
     pub advance-dominated : (bitOr leftOut rightOut ≡ 0 → ⊥)
-        → Advances positive negative k d (record { barren = true; node = d })
+        → Advances positive negative k d (record { barren = true; moved = false; node = d })
     advance-dominated some n so va = (
       λ _ x lx b.
           let u : ℕ = lowest (bitOr leftOut rightOut) in
@@ -53,21 +93,38 @@ module _ (positive negative : List ℕ) (k : ℕ) (d : Node) where
       λ f. clash true refl f,
     )
 
-    -- the candidates that are free go in
-    abbrev leftIn : ℕ
-    leftIn = bitAnd (free .near) (d .left .candidates)
+  -- nothing is chosen: the node as it is
+  pub advance-begin : Advances positive negative k d (record { barren = false; moved = false; node = d })
+  advance-begin n so va = (λ f. clash false f refl, λ _. same-self _ k d va)
 
-    abbrev rightIn : ℕ
-    rightIn = bitAnd (free .far) (d .right .candidates)
+  pub advance-settled : (held : ℕ) (moved : Bool) (e : Node) → (d .left .chosen ≡ 0 → ⊥) → HeldByAll positive negative d held
+      → Settles positive negative d held e → Advances positive negative k d (record { barren = false; moved = moved; node = e })
+  advance-settled held moved e some by-all s n so va = (λ f. clash false f refl, λ _. s n so va k some (by-all n so va k))
 
-    free-universal : (u : ℕ) → mem u (bitOr leftIn rightIn) ≡ true → Universal positive negative d u
-    free-universal u m =
-        union-cases (Universal positive negative d u) u leftIn rightIn m
-        (λ x. on-left (meet-right u (free .near) (d .left .candidates) x)
-        (fr .left u (meet-left u (free .near) (d .left .candidates) x)))
-        (λ x. on-right (meet-right u (free .far) (d .right .candidates) x)
-        (fr .right u (meet-left u (free .far) (d .right .candidates) x)))
+-- ---- step after step
 
-    pub advance-settled : (e : Node) → Settles positive negative d (bitOr leftIn rightIn) e
-        → Advances positive negative k d (record { barren = false; node = e })
-    advance-settled e s n so va = (λ f. clash false f refl, λ _. s n so va k free-universal)
+module _ (positive negative : List ℕ) (k : ℕ) (d : Node) where
+  -- e stands for the same groups
+  pub record Advanced (e : Node) : Type 0 where
+    pub fewer : Subset (undecided e) (undecided d)
+    pub same : InSound positive negative d (λ g. Same g k d e)
+
+  pub advanced-begin : Advanced d
+  advanced-begin = record { fewer = λ p m. m; same = λ n so va. same-self _ k d va }
+
+  module _ {e : Node} (h : Advanced e) (a : Progress) (few : Subset (undecided (a .node)) (undecided e))
+      (adv : Advances positive negative k e a) where
+    pub advanced-fewer : Subset (undecided (a .node)) (undecided d)
+    advanced-fewer p m = h .fewer p (few p m)
+
+    pub advanced-advances : Advances positive negative k d a
+    advanced-advances n so va =
+        let s = h .same n so va in
+        let t = adv n so (s .valid) in
+        (λ f x lx b. t .0 f x lx (s .to x lx b), λ f. same-then s (t .1 f))
+
+    pub advanced-step : a .barren ≡ false → Advanced (a .node)
+    advanced-step e = record { fewer = advanced-fewer; same = λ n so va. advanced-advances n so va .1 e }
+
+  pub advanced-end : {e : Node} → Advanced e → Advances positive negative k d (record { barren = false; moved = false; node = e })
+  advanced-end h n so va = (λ f. clash false f refl, λ _. h .same n so va)

@@ -13,7 +13,7 @@ use Rattle.vertex_set.proofs.LowestVertex.{lowest-lt, rest}
 use Rattle.vertex_set.proofs.Sweeps.{Sweep, sweep-begin, sweep-step, gone}
 use Rattle.listing.specs.declared.Fitting.{Fitting}
 use Rattle.listing.specs.declared.Node.{Node}
-use Rattle.listing.specs.Search.{Beside, FreeSides}
+use Rattle.listing.specs.Search.{Beside, otherWay, FreeSides}
 use Rattle.listing.proofs.Nodes.{single-is}
 
 module _ (positive negative : List ℕ) (candidates near far : ℕ) where
@@ -66,9 +66,9 @@ module _ (positive negative : List ℕ) (candidates near far : ℕ) where
         minus : ℕ
         minus = getD negative w 0
 
-  pub passing-end : {left same cross : ℕ} → Passing left same cross → left ≡ 0
-      → Beside positive negative candidates near far (record { near = same; far = cross })
-  passing-end h z =
+  pub passing-end : {left same cross : ℕ} → Passing left same cross → left ≡ 0 → (a b : ℕ)
+      → Beside positive negative candidates near far (record { near = same; far = cross; «near_but_one» = a; «far_but_one» = b })
+  passing-end h z a b =
       record {
         near-of = h .near-of;
         far-of = h .far-of;
@@ -76,7 +76,7 @@ module _ (positive negative : List ℕ) (candidates near far : ℕ) where
         cross = λ u w m i. h .oppose u w m i (ap (mem w) z ∙ mem-none w);
       }
 
-  pub beside-none : Beside positive negative candidates near far (record { near = 0; far = 0 })
+  pub beside-none : Beside positive negative candidates near far (record { near = 0; far = 0; «near_but_one» = 0; «far_but_one» = 0 })
   beside-none =
       record {
         near-of = λ p m. none-in p m;
@@ -86,12 +86,18 @@ module _ (positive negative : List ℕ) (candidates near far : ℕ) where
       }
 
 -- over the candidates of the left, then over those of the right
-pub both-sides : (positive negative : List ℕ) (d : Node) (near far : ℕ) (first second : Fitting)
-    → Beside positive negative (d .left .candidates) near far first
-    → Beside positive negative (d .right .candidates) (first .far) (first .near) second
-    → FreeSides positive negative d (record { near = second .far; far = second .near })
-both-sides positive negative d near far first second a b =
-    record {
-      left = λ u m. record { same = λ w i ne. a .same u w (b .far-of u m) i ne; cross = λ w i. b .cross u w m i };
-      right = λ u m. record { same = λ w i ne. b .same u w m i ne; cross = λ w i. a .cross u w (b .near-of u m) i };
-    }
+pub both-sides : (positive negative : List ℕ) (d : Node) (near far : ℕ) (first second between after : Fitting)
+    → Beside positive negative (d .left .candidates) near far first → between ≡ otherWay first
+    → Beside positive negative (d .right .candidates) (between .near) (between .far) second → after ≡ otherWay second
+    → FreeSides positive negative d after
+both-sides positive negative d near far first second between after a turned b back =
+    subst (FreeSides positive negative d) (sym back) (record {
+      left = λ u m. record { same = λ w i ne. a .same u w (in-near u (b .far-of u m)) i ne; cross = λ w i. b .cross u w m i };
+      right = λ u m. record { same = λ w i ne. b .same u w m i ne; cross = λ w i. a .cross u w (in-far u (b .near-of u m)) i };
+    })
+  where
+    in-near : Subset (between .far) (first .near)
+    in-near u m = ap (λ (f : Fitting). mem u (f .far)) (sym turned) ∙ m
+
+    in-far : Subset (between .near) (first .far)
+    in-far u m = ap (λ (f : Fitting). mem u (f .near)) (sym turned) ∙ m

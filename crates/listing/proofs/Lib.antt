@@ -10,7 +10,8 @@ pub mod Nodes
 pub mod Falling
 pub mod Below
 pub mod Prunes
-pub mod Universals
+pub mod Settling
+pub mod SoleConflicts
 pub mod Leaves
 pub mod FreeVertices
 pub mod Advances

@@ -1,10 +1,14 @@
 -- Where no group is below a node, and which vertices all groups below it hold. Assumes nothing.
 use Prim.Native.Nat.{ℕ}
+use native.Mathlib.Omega.{arith}
 use mathlib.Core.Path.{_≡_, sym, ap, _∙_}
-use mathlib.Core.Bool.{true, false}
+use mathlib.Core.Logic.{_≢_}
+use mathlib.Core.Bool.{true, false, not}
+use lib.Dec.{leb}
+use borrow.Author.Tests.{le-leb}
 use Rattle.vertex_set.specs.Sets.{mem, insert, size}
-use Rattle.vertex_set.proofs.Booleans.{clash, refute, cases, or-left, or-cases}
-use Rattle.vertex_set.proofs.Membership.{mem-none, union-left, union-right, union-cases, union-other}
+use Rattle.vertex_set.proofs.Booleans.{clash, refute, cases, and-intro, or-left, or-cases}
+use Rattle.vertex_set.proofs.Membership.{union-cases, union-other}
 use Rattle.vertex_set.proofs.Sizes.{size-subset}
 use Rattle.signed_graph.specs.declared.SignedGraph.{SignedGraph}
 use Rattle.signed_graph.specs.Graphs.{positiveEdge, negativeEdge}
@@ -17,15 +21,19 @@ use Rattle.clique.proofs.Extension.{joins-extend}
 use Rattle.listing.specs.declared.Side.{Side}
 use Rattle.listing.specs.declared.Node.{Node}
 use Rattle.listing.specs.Listing.{Item, Listed}
-use Rattle.listing.specs.Nodes.{reach, undecided, Fits, Half, Stage, untouched, led, Valid, FreeOn, Universal, on-left, on-right, Between, Below, Barren}
-use Rattle.listing.proofs.Listing.{listed-enough}
+use Rattle.listing.specs.Nodes.{reach, short, Fits, Half, Valid, FreeOn, Universal, on-left, on-right, Sole, Between, Below, Barren}
+use Rattle.listing.proofs.Listing.{listed-enough, listed-left, listed-right}
 use Rattle.listing.proofs.Nodes.{fits-new, fits-off}
 
-module _ (g : SignedGraph) (so : Sound g) (k : ℕ) where
-  -- u is free on the side `near`, `far` being the other
-  abbrev IsFree : Side → Side → ℕ → Type 0
-  IsFree near far u = FreeOn (g .positive) (g .negative) near far u
+-- for k = 0 no side is too small
+pub never-short : (k : ℕ) (d : Node) → k ≡ 0 → short k d ≡ false
+unfolding short floor
+never-short k d z =
+    let l : ℕ = size (reach (d .left)) in
+    let r : ℕ = size (reach (d .right)) in
+    ap not (and-intro (leb k l) (leb k r) (le-leb k l (omega arith)) (le-leb k r (omega arith)))
 
+module _ (g : SignedGraph) (so : Sound g) (k : ℕ) where
   -- ---- a side with all its candidates is too small (R1)
 
   pub short-barren : (d : Node) → floor k (size (reach (d .left))) (size (reach (d .right))) ≡ false → Barren g k d
@@ -36,84 +44,102 @@ module _ (g : SignedGraph) (so : Sound g) (k : ℕ) where
       (floor-mono k (size (x .left)) (size (x .right)) (size L) (size R)
       (size-subset (x .left) L (b .left .only)) (size-subset (x .right) R (b .right .only)) (listed-enough g so k x lx)) e
 
-  -- ---- a vertex that is free on a side
+  -- ---- a vertex u that fits beside the candidates that a set has
 
-  -- it is no candidate of the other
-  free-off : (near far : Side) (u : ℕ) → IsFree near far u → mem u (far .candidates) ≡ false
-  free-off near far u f =
-      refute (mem u (far .candidates)) (λ m. clash (negativeEdge g u u) (f .cross u m) (so .negatives .loopless u))
+  -- on the side `near`, `far` being the other, beside those of the sets l and r
+  record FitsIn (near far : Side) (l r u : ℕ) : Type 0 where
+    same : (w : ℕ) → mem w l ≡ true → mem w (near .candidates) ≡ true → w ≢ u → positiveEdge g w u ≡ true
+    cross : (w : ℕ) → mem w r ≡ true → mem w (far .candidates) ≡ true → negativeEdge g w u ≡ true
 
-  -- it fits beside all of the sets l and r between the sides
-  free-fits : (near far : Side) (l r u : ℕ) → Between near l → Between far r → IsFree near far u → mem u l ≡ false
-      → Fits g (near .chosen) (far .chosen) u → Fits g l r u
-  free-fits near far l r u a b free off f =
+  module _ {near far : Side} {s l r u : ℕ} (o : Group g k s) (sp : Split g s l r) (a : Between near l) (b : Between far r)
+      (fit : FitsIn near far l r u) where
+    -- it fits beside all of sets l and r between the sides
+    fits-all : mem u l ≡ false → Fits g (near .chosen) (far .chosen) u → Fits g l r u
+    fits-all off f =
+        record {
+          usable = f .usable;
+          same = λ q m.
+              union-cases (positiveEdge g q u ≡ true) q (near .chosen) (near .candidates) (a .only q m) (f .same q)
+              (λ x. fit .same q m x (λ e. clash (mem u l) (ap (λ (z : ℕ). mem z l) (sym e) ∙ m) off));
+          cross = λ q m.
+              union-cases (negativeEdge g q u ≡ true) q (far .chosen) (far .candidates) (b .only q m) (f .cross q) (fit .cross q m);
+        }
+
+    -- so a group with these sides holds it
+    fits-held : Fits g (near .chosen) (far .chosen) u → mem u s ≡ true
+    fits-held f =
+        cases (mem u s ≡ true) (mem u s) (λ m. m) (λ off.
+        let not-l = refute (mem u l) (λ m. clash (mem u s) (sp .either u ∙ or-left (mem u l) (mem u r) m) off) in
+        let j : Fits g l r u = fits-all not-l f in
+        absurd (maximal-single g so s (o .maximal) u off
+        (balanced-words g so (insert u s)
+        (joins-extend g so s u off (o .balanced) (j .usable) sp (record { inside = j .same; across = j .cross })))))
+
+    -- and there is none where it was left out
+    fits-out : Half g near (far .chosen) → mem u (near .excluded) ≡ true → ⊥
+    fits-out half m =
+        let f : Fits g (near .chosen) (far .chosen) u = half .out u m in
+        or-cases ⊥ (mem u l) (mem u r) (sym (sp .either u) ∙ fits-held f)
+        (λ y. clash (mem u (near .excluded)) m (half .apart u
+        (union-other u (near .chosen) (near .candidates) (a .only u y) (fits-new g so (near .chosen) (far .chosen) u f))))
+        (λ y. clash (negativeEdge g u u)
+        (fit .cross u y
+        (union-other u (far .chosen) (far .candidates) (b .only u y) (fits-off g so (near .chosen) (far .chosen) u f)))
+        (so .negatives .loopless u))
+
+  -- a free vertex fits beside all candidates
+  free-in : {near far : Side} (l r u : ℕ) → FreeOn (g .positive) (g .negative) near far u → FitsIn near far l r u
+  free-in l r u free = record { same = λ w _ m ne. free .same w m ne; cross = λ w _ m. free .cross w m }
+
+  -- a vertex that only u keeps from joining fits beside sets that lack u
+  sole-in : {near far : Side} {l r u : ℕ} (e : Sole (g .positive) (g .negative) (near .excluded) (near .candidates) (far .candidates) u)
+      → mem u l ≡ false → mem u r ≡ false → FitsIn near far l r (e .by)
+  sole-in {near} {far} {l} {r} {u} e off-l off-r =
       record {
-        usable = f .usable;
-        same = λ q m.
-            union-cases (positiveEdge g q u ≡ true) q (near .chosen) (near .candidates) (a .only q m) (f .same q)
-            (λ x. free .same q x (λ e. clash (mem u l) (ap (λ (z : ℕ). mem z l) (sym e) ∙ m) off));
-        cross = λ q m.
-            union-cases (negativeEdge g q u ≡ true) q (far .chosen) (far .candidates) (b .only q m) (f .cross q) (free .cross q);
+        same = λ w i m _. so .positives .symmetric w (e .by) ∙ e .same w m (other l off-l w i);
+        cross = λ w i m. so .negatives .symmetric w (e .by) ∙ e .cross w m (other r off-r w i);
       }
+    where
+      other : (t : ℕ) → mem u t ≡ false → (w : ℕ) → mem w t ≡ true → w ≢ u
+      other t off w i e = clash (mem w t) i (ap (λ (z : ℕ). mem z t) e ∙ off)
 
-  -- so a group with these sides holds it
-  free-held : {near far : Side} {s l r u : ℕ} → Group g k s → Split g s l r → Between near l → Between far r
-      → IsFree near far u → Fits g (near .chosen) (far .chosen) u → mem u s ≡ true
-  free-held {near} {far} {s} {l} {r} {u} o sp a b free f =
-      cases (mem u s ≡ true) (mem u s) (λ m. m) (λ off.
-      let not-l = refute (mem u l) (λ m. clash (mem u s) (sp .either u ∙ or-left (mem u l) (mem u r) m) off) in
-      let j : Fits g l r u = free-fits near far l r u a b free not-l f in
-      absurd (maximal-single g so s (o .maximal) u off
-      (balanced-words g so (insert u s)
-      (joins-extend g so s u off (o .balanced) (j .usable) sp (record { inside = j .same; across = j .cross })))))
+  -- ---- at a node
 
-  -- and there is none where it was left out (R2)
-  free-out : {near far : Side} {s l r u : ℕ} → Group g k s → Split g s l r → Between near l → Between far r
-      → IsFree near far u → Half g near (far .chosen) → mem u (near .excluded) ≡ true → ⊥
-  free-out {near} {far} {s} {l} {r} {u} o sp a b free half m =
-      let f : Fits g (near .chosen) (far .chosen) u = half .out u m in
-      or-cases ⊥ (mem u l) (mem u r) (sym (sp .either u) ∙ free-held o sp a b free f)
-      (λ y. clash (mem u (near .excluded)) m (half .apart u
-      (union-other u (near .chosen) (near .candidates) (a .only u y) (fits-new g so (near .chosen) (far .chosen) u f))))
-      (λ y. clash (mem u (far .candidates))
-      (union-other u (far .chosen) (far .candidates) (b .only u y) (fits-off g so (near .chosen) (far .chosen) u f))
-      (free-off near far u free))
+  module _ (d : Node) (h : Valid g d) (u : ℕ) (x : Item) (lx : Listed g k x) (b : Below d x) where
+    swapped : Split g (x .vertices) (x .right) (x .left)
+    swapped = split-swap g so (lx .sides .split)
 
-  module _ (d : Node) (h : Valid g d) (u : ℕ) where
-    module _ (x : Item) (lx : Listed g k x) (b : Below d x) where
-      pub dominated-left : mem u (d .left .excluded) ≡ true → IsFree (d .left) (d .right) u → ⊥
-      dominated-left m free = free-out (lx .group) (lx .sides .split) (b .left) (b .right) free (h .left) m
+    -- a vertex that was left out is free (R2)
+    pub dominated-left : mem u (d .left .excluded) ≡ true → FreeOn (g .positive) (g .negative) (d .left) (d .right) u → ⊥
+    dominated-left m free =
+        fits-out (lx .group) (lx .sides .split) (b .left) (b .right) (free-in (x .left) (x .right) u free) (h .left) m
 
-      pub dominated-right : mem u (d .right .excluded) ≡ true → IsFree (d .right) (d .left) u → ⊥
-      dominated-right m free =
-          free-out (lx .group) (split-swap g so (lx .sides .split)) (b .right) (b .left) free (h .right) m
+    pub dominated-right : mem u (d .right .excluded) ≡ true → FreeOn (g .positive) (g .negative) (d .right) (d .left) u → ⊥
+    dominated-right m free =
+        fits-out (lx .group) swapped (b .right) (b .left) (free-in (x .right) (x .left) u free) (h .right) m
 
-    -- ---- a universal candidate (R7)
+    -- a candidate is free (R7)
+    pub universal-held : Universal (g .positive) (g .negative) d u → mem u (x .vertices) ≡ true
+    universal-held (on-left m f) =
+        fits-held (lx .group) (lx .sides .split) (b .left) (b .right) (free-in (x .left) (x .right) u f) (h .left .candidate u m)
+    universal-held (on-right m f) =
+        fits-held (lx .group) swapped (b .right) (b .left) (free-in (x .right) (x .left) u f) (h .right .candidate u m)
 
-    module _ (w : Universal (g .positive) (g .negative) d u) where
-      pub universal-in : mem u (undecided d) ≡ true
-      universal-in = go w
-        where
-          go : Universal (g .positive) (g .negative) d u → mem u (undecided d) ≡ true
-          go (on-left m f) = union-left u (d .left .candidates) (d .right .candidates) m
-          go (on-right m f) = union-right u (d .left .candidates) (d .right .candidates) m
+    -- u alone keeps a vertex that was left out from joining
+    off-left : mem u (x .vertices) ≡ false → mem u (x .left) ≡ false
+    off-left off = refute (mem u (x .left)) (λ m. clash (mem u (x .vertices)) (listed-left lx u m) off)
 
-      -- there is one only where something is chosen
-      pub universal-chosen : {A : Type 0} → d .left .chosen ≡ 0 → A
-      universal-chosen {A} z = go w (h .stage)
-        where
-          go : Universal (g .positive) (g .negative) d u → Stage d → A
-          go (on-left m f) (untouched zl zr same) =
-              clash (mem u (d .right .candidates)) (ap (mem u) (sym same) ∙ m) (free-off (d .left) (d .right) u f)
-          go (on-right m f) (untouched zl zr same) =
-              clash (mem u (d .left .candidates)) (ap (mem u) same ∙ m) (free-off (d .right) (d .left) u f)
-          go s (led a m least) = clash (mem a (d .left .chosen)) m (ap (mem a) z ∙ mem-none a)
+    off-right : mem u (x .vertices) ≡ false → mem u (x .right) ≡ false
+    off-right off = refute (mem u (x .right)) (λ m. clash (mem u (x .vertices)) (listed-right lx u m) off)
 
-      pub universal-held : (x : Item) → Listed g k x → Below d x → mem u (x .vertices) ≡ true
-      universal-held x lx b = go w
-        where
-          go : Universal (g .positive) (g .negative) d u → mem u (x .vertices) ≡ true
-          go (on-left m f) =
-              free-held (lx .group) (lx .sides .split) (b .left) (b .right) f (h .left .candidate u m)
-          go (on-right m f) =
-              free-held (lx .group) (split-swap g so (lx .sides .split)) (b .right) (b .left) f (h .right .candidate u m)
+    pub required-left : Sole (g .positive) (g .negative) (d .left .excluded) (d .left .candidates) (d .right .candidates) u
+        → mem u (x .vertices) ≡ true
+    required-left e =
+        cases (mem u (x .vertices) ≡ true) (mem u (x .vertices)) (λ m. m) (λ off.
+        absurd (fits-out (lx .group) (lx .sides .split) (b .left) (b .right) (sole-in e (off-left off) (off-right off)) (h .left) (e .out)))
+
+    pub required-right : Sole (g .positive) (g .negative) (d .right .excluded) (d .right .candidates) (d .left .candidates) u
+        → mem u (x .vertices) ≡ true
+    required-right e =
+        cases (mem u (x .vertices) ≡ true) (mem u (x .vertices)) (λ m. m) (λ off.
+        absurd (fits-out (lx .group) swapped (b .right) (b .left) (sole-in e (off-right off) (off-left off)) (h .right) (e .out)))

@@ -62,7 +62,7 @@ rootOf all =
     let side : Side = record { chosen = 0; candidates = all; excluded = 0 } in
     record { left = side; right = side }
 
--- v, which has these positive and negative partners, goes to the left; to the right; where it may; it is left out
+-- v, which has these positive and negative partners, goes to the left; to the right; where it may
 abbrev pub putLeft : Node → ℕ → ℕ → ℕ → Node
 putLeft d v positive negative =
     record { left = joined (narrowed (d .left) v positive) v; right = narrowed (d .right) v negative }
@@ -75,6 +75,11 @@ unfoldable pub putIn : Node → ℕ → ℕ → ℕ → Node
 putIn d v positive negative =
     elim (mem v (d .left .candidates)) [ true ↦ putLeft d v positive negative | false ↦ putRight d v positive negative ]
 
+-- v goes in where it is undecided
+unfoldable pub putOpen : Node → ℕ → ℕ → ℕ → Node
+putOpen d v positive negative = elim (mem v (undecided d)) [ true ↦ putIn d v positive negative | false ↦ d ]
+
+-- v is left out
 abbrev pub leaveOut : Node → ℕ → Node
 leaveOut d v = record { left = passedOver (d .left) v; right = passedOver (d .right) v }
 
@@ -136,6 +141,13 @@ pub data Universal (positive negative : List ℕ) (d : Node) (u : ℕ) : Type 0 
   on-left : mem u (d .left .candidates) ≡ true → FreeOn positive negative (d .left) (d .right) u → Universal positive negative d u
   on-right : mem u (d .right .candidates) ≡ true → FreeOn positive negative (d .right) (d .left) u → Universal positive negative d u
 
+-- a vertex of `excluded` fits on its side beside every candidate but u, by its own rows; `near` and `far` as above
+pub record Sole (positive negative : List ℕ) (excluded near far u : ℕ) : Type 0 where
+  pub by : ℕ
+  pub out : mem by excluded ≡ true
+  pub same : (w : ℕ) → mem w near ≡ true → w ≢ u → mem w (getD positive by 0) ≡ true
+  pub cross : (w : ℕ) → mem w far ≡ true → w ≢ u → mem w (getD negative by 0) ≡ true
+
 -- ---- the groups below a node
 
 -- s has what the side has, and beyond that only candidates of it
@@ -146,6 +158,10 @@ pub record Between (side : Side) (s : ℕ) : Type 0 where
 pub record Below (d : Node) (x : Item) : Type 0 where
   pub left : Between (d .left) (x .left)
   pub right : Between (d .right) (x .right)
+
+-- every group below d holds u
+abbrev pub Held : SignedGraph → ℕ → Node → ℕ → Type 0
+Held g k d u = (x : Item) → Listed g k x → Below d x → mem u (x .vertices) ≡ true
 
 -- no group is below d; the node e stands for the same groups as d
 abbrev pub Barren : SignedGraph → ℕ → Node → Type 0

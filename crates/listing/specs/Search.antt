@@ -21,7 +21,7 @@ use Rattle.listing.specs.Pages.{dueAt}
 use Rattle.listing.specs.Calls.{dueGroups}
 use Rattle.listing.specs.Largest.{sizeOf}
 use Rattle.listing.specs.Filling.{Holds}
-use Rattle.listing.specs.Nodes.{chosen, Valid, FreeOn, Universal, Barren, Same, itemsBelow, groupAt, leafItem}
+use Rattle.listing.specs.Nodes.{chosen, Valid, FreeOn, Sole, Held, Barren, Same, itemsBelow, groupAt, leafItem}
 
 -- the graph of n vertices with these tables; what holds of every such graph that is sound and in which the node is valid
 abbrev pub graphOf : ℕ → List ℕ → List ℕ → SignedGraph
@@ -45,11 +45,32 @@ pub record FreeSides (positive negative : List ℕ) (d : Node) (r : Fitting) : T
   pub left : (u : ℕ) → mem u (r .near) ≡ true → FreeOn positive negative (d .left) (d .right) u
   pub right : (u : ℕ) → mem u (r .far) ≡ true → FreeOn positive negative (d .right) (d .left) u
 
--- where the universal candidates `free` go in, the node stands for the same groups
+-- with the sides exchanged
+abbrev pub otherWay : Fitting → Fitting
+otherWay f = record { near = f .far; far = f .near; «near_but_one» = f .«far_but_one»; «far_but_one» = f .«near_but_one» }
+
+-- the candidates that a vertex with these partners does not fit beside: all others are its partners
+pub record Conflicts (near far positive negative r : ℕ) : Type 0 where
+  pub same : (w : ℕ) → mem w near ≡ true → mem w r ≡ false → mem w positive ≡ true
+  pub cross : (w : ℕ) → mem w far ≡ true → mem w r ≡ false → mem w negative ≡ true
+
+-- r has no member but the only one of s
+abbrev pub Only : ℕ → ℕ → Type 0
+Only s r = (u w : ℕ) → mem u r ≡ true → mem w s ≡ true → w ≡ u
+
+abbrev pub Requires : List ℕ → List ℕ → ℕ → ℕ → ℕ → ℕ → Type 0
+Requires positive negative excluded near far r = (u : ℕ) → mem u r ≡ true → Sole positive negative excluded near far u
+
+-- every group below the node holds the vertices r
+abbrev pub HeldByAll : List ℕ → List ℕ → Node → ℕ → Type 0
+HeldByAll positive negative d r =
+    InSound positive negative d (λ g. (k u : ℕ) → mem u r ≡ true → Held g k d u)
+
+-- where something is chosen and every group below holds the vertices `held`, e stands for the same groups
 abbrev pub Settles : List ℕ → List ℕ → Node → ℕ → Node → Type 0
-Settles positive negative d free e =
+Settles positive negative d held e =
     InSound positive negative d (λ g.
-    (k : ℕ) → ((u : ℕ) → mem u free ≡ true → Universal positive negative d u) → Same g k d e)
+    (k : ℕ) → (d .left .chosen ≡ 0 → ⊥) → ((u : ℕ) → mem u held ≡ true → Held g k d u) → Same g k d e)
 
 -- no group is below the node, or the new one stands for the same groups
 abbrev pub Advances : List ℕ → List ℕ → ℕ → Node → Progress → Type 0

@@ -21,8 +21,8 @@ ghost use Rattle.listing.specs.Largest as finding;
 ghost use Rattle.listing.specs.Largest.{largestOf, answerTo, largestGroup, largestNumber};
 ghost use Rattle.listing.specs.Filling.{Holds, Past};
 ghost use Rattle.listing.specs.Nodes as nodes;
-ghost use Rattle.listing.specs.Nodes.{narrowed, joined, passedOver, putIn, leaveOut, short, groupAt, rootOf};
-ghost use Rattle.listing.specs.Search.{Beside, FreeSides, Settles, Advances, leafItems, ListsLeaf, Lists, bestOf, Finds};
+ghost use Rattle.listing.specs.Nodes.{narrowed, joined, passedOver, putIn, putOpen, leaveOut, short, groupAt, rootOf};
+ghost use Rattle.listing.specs.Search.{Beside, otherWay, FreeSides, Conflicts, Only, Requires, HeldByAll, Settles, Advances, leafItems, ListsLeaf, Lists, bestOf, Finds};
 
 // Where a page starts: at the first group, or after a set in listing order.
 pub enum Bookmark {
@@ -79,15 +79,19 @@ struct Best {
     right: u64,
 }
 
-// Vertices that fit on a side, and vertices that fit on the other.
+// Vertices that fit on a side, and vertices that fit on the other. Of the latter two fields nothing is promised: they have those
+// that do not fit beside at most one candidate, as a hint where to look.
 struct Fitting {
     near: u64,
     far: u64,
+    near_but_one: u64,
+    far_but_one: u64,
 }
 
-// The node that stands for the same groups, unless there are none.
+// The node that stands for the same groups, unless there are none; and whether vertices went in.
 struct Progress {
     barren: bool,
+    moved: bool,
     node: Node,
 }
 
@@ -266,32 +270,44 @@ fn leave_out(at: Node, v: usize) -> Node
     }
 }
 
-// Of the vertices `near` and `far`, those that fit beside every candidate of a side: those on that side are positive to all others,
-// those on the other side negative to all.
+// Of the vertices in `from`, those that fit beside every candidate of a side: those on that side are positive to all others, those
+// on the other side negative to all.
 fn beside_all<'a>(
     candidates: u64,
-    near: u64,
-    far: u64,
+    from: Fitting,
     positive: &'a [u64; 64],
     negative: &'a [u64; 64],
 ) -> Fitting
-    ensures { λ r. ⌜ Beside (now (positive .entry)) (now (negative .entry)) candidates near far r ⌝ }
+    ensures { λ r. ⌜ Beside (now (positive .entry)) (now (negative .entry)) candidates (from .near) (from .far) r ⌝ }
 {
-    let mut same = near;
-    let mut cross = far;
+    let mut near = from.near;
+    let mut far = from.far;
+    let mut near_but_one = from.near_but_one;
+    let mut far_but_one = from.far_but_one;
     let mut left = candidates;
     while left != 0 {
         let w = vertex_set::lowest(left);
-        same = same & (positive[w] | vertex_set::single(w));
-        cross = cross & negative[w];
-        if same | cross == 0 {
-            return Fitting { near: 0, far: 0 };
+        let partners = positive[w] | vertex_set::single(w);
+        let opposed = negative[w];
+        near_but_one = near_but_one & (near | partners);
+        far_but_one = far_but_one & (far | opposed);
+        near = near & partners;
+        far = far & opposed;
+        if near_but_one | far_but_one == 0 {
+            return Fitting {
+                near: 0,
+                far: 0,
+                near_but_one: 0,
+                far_but_one: 0,
+            };
         }
         left = left & (left - 1);
     }
     Fitting {
-        near: same,
-        far: cross,
+        near,
+        far,
+        near_but_one,
+        far_but_one,
     }
 }
 
@@ -301,30 +317,91 @@ fn free_sides<'a>(at: Node, positive: &'a [u64; 64], negative: &'a [u64; 64]) ->
 {
     let left = at.left;
     let right = at.right;
-    let first = beside_all(
-        left.candidates,
-        left.candidates | left.excluded,
-        right.candidates | right.excluded,
-        positive,
-        negative,
-    );
-    let second = beside_all(right.candidates, first.far, first.near, positive, negative);
+    let near = left.candidates | left.excluded;
+    let far = right.candidates | right.excluded;
+    let all = Fitting {
+        near,
+        far,
+        near_but_one: near,
+        far_but_one: far,
+    };
+    let first = beside_all(left.candidates, all, positive, negative);
+    let second = beside_all(right.candidates, exchanged(first), positive, negative);
+    exchanged(second)
+}
+
+// With the sides exchanged.
+fn exchanged(of: Fitting) -> Fitting
+    ensures { λ r. ⌜ r ≡ otherWay of ⌝ }
+{
     Fitting {
-        near: second.far,
-        far: second.near,
+        near: of.far,
+        far: of.near,
+        near_but_one: of.far_but_one,
+        far_but_one: of.near_but_one,
     }
 }
 
-// The node with the universal candidates `free` in.
-fn settle<'a>(at: Node, free: u64, positive: &'a [u64; 64], negative: &'a [u64; 64]) -> Node
+// The candidates that a vertex with these partners does not fit beside.
+fn conflicts(near: u64, far: u64, positive: u64, negative: u64) -> u64
+    ensures { λ r. ⌜ Conflicts near far positive negative r ⌝ }
+{
+    (near & !positive) | (far & !negative)
+}
+
+// The set s where it has one member, else the empty set.
+fn only(s: u64) -> u64
+    ensures { λ r. ⌜ Only s r ⌝ }
+{
+    if s == 0 {
+        return 0;
+    }
+    if s & (s - 1) == 0 {
+        return s;
+    }
+    0
+}
+
+// The candidates that are the only one that some vertex of `excluded` does not fit beside.
+fn required<'a>(
+    excluded: u64,
+    near: u64,
+    far: u64,
+    positive: &'a [u64; 64],
+    negative: &'a [u64; 64],
+) -> u64
+    ensures { λ r. ⌜ Requires (now (positive .entry)) (now (negative .entry)) excluded near far r ⌝ }
+{
+    let mut held: u64 = 0;
+    let mut left = excluded;
+    while left != 0 {
+        let x = vertex_set::lowest(left);
+        held = held | only(conflicts(near, far, positive[x], negative[x]));
+        left = left & (left - 1);
+    }
+    held
+}
+
+// The node with v in, where v is undecided; else the node as it is.
+fn put_open(at: Node, v: usize, positive: u64, negative: u64) -> Node
+    ensures { λ r. ⌜ r ≡ putOpen at v positive negative ⌝ }
+{
+    if vertex_set::contains(undecided(at), v) {
+        return put_in(at, v, positive, negative);
+    }
+    at
+}
+
+// The node with those of the vertices `held` in that fit beside one another.
+fn settle<'a>(at: Node, held: u64, positive: &'a [u64; 64], negative: &'a [u64; 64]) -> Node
     ensures { λ r. ⌜ Subset (nodes.undecided r) (nodes.undecided at) ⌝ }
-    ensures { λ r. ⌜ Settles (now (positive .entry)) (now (negative .entry)) at free r ⌝ }
+    ensures { λ r. ⌜ Settles (now (positive .entry)) (now (negative .entry)) at held r ⌝ }
 {
     let mut node = at;
-    let mut left = free;
+    let mut left = held;
     while left != 0 {
         let u = vertex_set::lowest(left);
-        node = put_in(node, u, positive[u], negative[u]);
+        node = put_open(node, u, positive[u], negative[u]);
         left = left & (left - 1);
     }
     node
@@ -334,6 +411,9 @@ fn settle<'a>(at: Node, free: u64, positive: &'a [u64; 64], negative: &'a [u64; 
 fn is_short(at: Node, k: u64) -> bool
     ensures { λ r. ⌜ r ≡ short k at ⌝ }
 {
+    if k == 0 {
+        return false;
+    }
     let left = at.left;
     let right = at.right;
     let left_size = vertex_set::size(left.chosen | left.candidates);
@@ -341,8 +421,33 @@ fn is_short(at: Node, k: u64) -> bool
     !clique::large_enough(k, left_size, right_size)
 }
 
-// The node with all universal candidates in, unless it is seen that no group for k is below: where a side is too small, or where
-// a vertex that was left out is free, so that it would join every set below.
+// The candidates that every group below holds: those that fit beside all others, and those that alone keep a vertex that was left
+// out from joining.
+fn held_by_all<'a>(at: Node, free: Fitting, positive: &'a [u64; 64], negative: &'a [u64; 64]) -> u64
+    ensures { λ r. ⌜ (FreeSides (now (positive .entry)) (now (negative .entry)) at free → HeldByAll (now (positive .entry)) (now (negative .entry)) at r) ⌝ }
+{
+    let left = at.left;
+    let right = at.right;
+    let universal = (free.near & left.candidates) | (free.far & right.candidates);
+    let by_left = required(
+        left.excluded & free.near_but_one,
+        left.candidates,
+        right.candidates,
+        positive,
+        negative,
+    );
+    let by_right = required(
+        right.excluded & free.far_but_one,
+        right.candidates,
+        left.candidates,
+        positive,
+        negative,
+    );
+    universal | by_left | by_right
+}
+
+// The node with candidates in that every group below holds, unless it is seen that no group for k is below: where a side is too
+// small, or where a vertex that was left out is free, so that it would join every set below.
 fn advance<'a>(at: Node, k: u64, positive: &'a [u64; 64], negative: &'a [u64; 64]) -> Progress
     ensures { λ r. ⌜ Subset (nodes.undecided (r .node)) (nodes.undecided at) ⌝ }
     ensures { λ r. ⌜ Advances (now (positive .entry)) (now (negative .entry)) k at r ⌝ }
@@ -350,23 +455,61 @@ fn advance<'a>(at: Node, k: u64, positive: &'a [u64; 64], negative: &'a [u64; 64
     if is_short(at, k) {
         return Progress {
             barren: true,
+            moved: false,
+            node: at,
+        };
+    }
+    let left = at.left;
+    let right = at.right;
+    if left.chosen == 0 {
+        return Progress {
+            barren: false,
+            moved: false,
             node: at,
         };
     }
     let free = free_sides(at, positive, negative);
-    let left = at.left;
-    let right = at.right;
     let dominating = (free.near & left.excluded) | (free.far & right.excluded);
     if dominating != 0 {
         return Progress {
             barren: true,
+            moved: false,
             node: at,
         };
     }
-    let universal = (free.near & left.candidates) | (free.far & right.candidates);
+    let held = held_by_all(at, free, positive, negative);
     Progress {
         barren: false,
-        node: settle(at, universal, positive, negative),
+        moved: held != 0,
+        node: settle(at, held, positive, negative),
+    }
+}
+
+// The node after steps of `advance`, until one changes nothing or nothing is undecided.
+fn propagate<'a>(at: Node, k: u64, positive: &'a [u64; 64], negative: &'a [u64; 64]) -> Progress
+    ensures { λ r. ⌜ Subset (nodes.undecided (r .node)) (nodes.undecided at) ⌝ }
+    ensures { λ r. ⌜ Advances (now (positive .entry)) (now (negative .entry)) k at r ⌝ }
+{
+    let mut node = at;
+    let mut steps: u64 = 0;
+    while steps < 64 {
+        let step = advance(node, k, positive, negative);
+        if step.barren {
+            return step;
+        }
+        if !step.moved {
+            return step;
+        }
+        node = step.node;
+        if undecided(node) == 0 {
+            return step;
+        }
+        steps += 1;
+    }
+    Progress {
+        barren: false,
+        moved: false,
+        node,
     }
 }
 
@@ -419,7 +562,7 @@ fn list_below<'a>(
     if is_past(from, chosen(at), vertex_set::lowest(undecided(at))) {
         return page;
     }
-    let step = advance(at, k, positive, negative);
+    let step = propagate(at, k, positive, negative);
     if step.barren {
         return page;
     }

@@ -9,7 +9,7 @@ use Rattle.vertex_set.proofs.lowest.Reads as lowest-reads
 use Rattle.listing.specs.Nodes.{undecided}
 use Rattle.listing.proofs.Falling.{Decides, decides-lowest, put-falls, out-falls}
 use Rattle.listing.proofs.Search.{lists-past, lists-barren, lists-leaf, lists-full, lists-both}
-use Rattle.listing.proofs.advance.Reads as advance-reads
+use Rattle.listing.proofs.propagate.Reads as propagate-reads
 use Rattle.listing.proofs.chosen.Reads as chosen-reads
 use Rattle.listing.proofs.is_past.Reads as is-past-reads
 use Rattle.listing.proofs.leave_out.Reads as leave-out-reads
@@ -43,8 +43,8 @@ calls t = (
   lowest-reads.Learnt,
   is-past-reads.Asked,
   is-past-reads.Learnt,
-  advance-reads.Asked,
-  advance-reads.Learnt,
+  propagate-reads.Asked,
+  propagate-reads.Learnt,
   list-leaf-reads.Asked,
   list-leaf-reads.Learnt,
   put-in-reads.Asked,
@@ -58,12 +58,12 @@ calls t = (
 module _ (t : ℕ) where
   -- the vertex to decide
   decides : (c : lts.After-lowest2 (calls t) (Starts t) reads.Post)
-      → Decides t (c .before .before .before .before .before .advance .result .node) (c .lowest2 .result)
+      → Decides t (c .before .before .before .before .before .propagate .result .node) (c .lowest2 .result)
   decides c =
       let u = c .before .before .undecided2 in
       let step = c .before .before .before .before .before in
       let start = step .before .before .before .before .before .before .before in
-      decides-lowest t (start .args .at) (step .advance .result .node) (start .pre .0) (step .advance .ensures .0)
+      decides-lowest t (start .args .at) (step .propagate .result .node) (start .pre .0) (step .propagate .ensures .0)
       (u .result) (u .ensures) (u .ok) (c .before .if3 .left) (c .lowest2 .result) (c .lowest2 .ensures)
 
   returns : lts.Need-returns (calls t) (Starts t) reads.Post
@@ -76,7 +76,7 @@ module _ (t : ℕ) where
 
   returns-2 : lts.Need-returns-2 (calls t) (Starts t) reads.Post
   returns-2 c =
-      let step = c .before .advance in
+      let step = c .before .propagate in
       lists-barren _ _ _ _ _ _ _ (step .result) (step .ensures .1) (c .if2 .taken)
 
   returns-3 : lts.Need-returns-3 (calls t) (Starts t) reads.Post
@@ -85,7 +85,7 @@ module _ (t : ℕ) where
       let done = leaf .before .before in
       let u = done .before in
       let fertile = u .before .before in
-      let step = fertile .before .advance in
+      let step = fertile .before .propagate in
       lists-leaf _ _ _ _ _ _ _ (step .result) (step .ensures .1) (fertile .if2 .left) _ _ _ (u .undecided2 .ensures)
       (done .if3 .taken) (leaf .list-leaf .ensures)
 
@@ -96,7 +96,7 @@ module _ (t : ℕ) where
       let v = put .before .before .before in
       let u = v .before .before .undecided2 in
       let fertile = v .before .before .before .before in
-      let step = fertile .before .advance in
+      let step = fertile .before .propagate in
       lists-full _ _ _ _ _ _ _ (step .result) (step .ensures .1) (fertile .if2 .left) (u .result) (v .lowest2 .result)
       (u .ensures) (v .before .if3 .left) (v .lowest2 .ensures) _ (put .put-in .ensures) _ _ (first .list-below .ensures)
       (c .enum-told .given .1)
@@ -110,7 +110,7 @@ module _ (t : ℕ) where
       let v = put .before .before .before in
       let u = v .before .before .undecided2 in
       let fertile = v .before .before .before .before in
-      let step = fertile .before .advance in
+      let step = fertile .before .propagate in
       lists-both _ _ _ _ _ _ _ (step .result) (step .ensures .1) (fertile .if2 .left) (u .result) (v .lowest2 .result)
       (u .ensures) (v .before .if3 .left) (v .lowest2 .ensures) _ (put .put-in .ensures) _ _ (first .list-below .ensures)
       _ (out .leave-out .ensures) _ _ (second .list-below2 .ensures)

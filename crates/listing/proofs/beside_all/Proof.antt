@@ -8,16 +8,16 @@ use Rattle.listing.proofs.beside_all.Statement.{statement}
 use Rattle.listing.proofs.beside_all.Tie as tie
 
 abbrev Inv-loop : tie.InvT-loop
-Inv-loop candidates near far positive negative same₀ cross₀ left₀ same cross left =
-    Passing positive negative candidates near far left same cross
+Inv-loop candidates positive negative near₀ far₀ near-but-one₀ far-but-one₀ left₀ near far near-but-one far-but-one left =
+    Passing positive negative candidates near₀ far₀ left near far
 
 abbrev μ-loop : tie.MeasureT-loop
-μ-loop candidates near far positive negative same₀ cross₀ left₀ same cross left = size left
+μ-loop candidates positive negative near₀ far₀ near-but-one₀ far-but-one₀ left₀ near far near-but-one far-but-one left = size left
 
 loop-holds : tie.Need-loop-holds Inv-loop μ-loop
 loop-holds c = passing-begin _ _ _ _ _ (c .fits .candidates .fits)
 
-small : tie.Need-element-copy-out-same Inv-loop μ-loop
+small : tie.Need-element-copy-out-partners Inv-loop μ-loop
 small c = omega (arith, c .lowest .ensures, lowest-lt _ (search needs) (c .before .before .loop .inv .sweep .fits))
 
 loop-less : tie.Need-loop-less Inv-loop μ-loop
@@ -32,12 +32,6 @@ loop-again c =
     passing-step _ _ _ _ _ (w .before .before .loop .inv) (search needs) (w .lowest .result) (w .lowest .ensures)
     (one .single .result) (one .single .ensures)
 
-returns : tie.Need-returns Inv-loop μ-loop
-returns c = beside-none _ _ _ _ _
-
-returns-2 : tie.Need-returns-2 Inv-loop μ-loop
-returns-2 c = passing-end _ _ _ _ _ (c .before .loop .inv) (c .loop-test .left)
-
 pub beside-all-spec : {M : Type 1} → statement M
 beside-all-spec =
     tie.close
@@ -51,8 +45,8 @@ beside-all-spec =
     (λ c κs. search needs)
     (λ c. record { fits = omega (arith, small (c .before .before)) })
     (λ c. small (c .before .before))
-    returns
+    (λ c. beside-none _ _ _ _ _)
     (λ c. search needs)
     loop-less
     loop-again
-    returns-2)
+    (λ c. passing-end _ _ _ _ _ (c .before .loop .inv) (c .loop-test .left) _ _))

@@ -5,7 +5,14 @@ use Rattle.listing.proofs.free_sides.Statement.{statement}
 use Rattle.listing.proofs.free_sides.Tie as tie
 
 returns : tie.Need-returns
-returns c = both-sides _ _ _ _ _ _ _ (c .before .beside-all .ensures) (c .beside-all2 .ensures)
+returns c =
+    let second = c .before in
+    let turned = second .before in
+    both-sides _ _ _ _ _ (turned .before .beside-all .result) (second .beside-all2 .result) (turned .exchanged .result)
+    (c .exchanged2 .result) (turned .before .beside-all .ensures) (turned .exchanged .ensures) (second .beside-all2 .ensures)
+    (c .exchanged2 .ensures)
 
 pub free-sides-spec : {M : Type 1} → statement M
-free-sides-spec = tie.close (tie.spec (λ c κs. search needs) (λ c κs. search needs) returns)
+free-sides-spec =
+    tie.close (tie.spec
+    (λ c κs. search needs) (λ c κs. search needs) (λ c κs. search needs) (λ c κs. search needs) returns)

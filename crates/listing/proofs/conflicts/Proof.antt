@@ -1,0 +1,11 @@
+-- `listing::conflicts` meets its contract. Assumes nothing.
+use Rattle.listing.proofs.SoleConflicts.{conflicts-are}
+use Rattle.listing.proofs.conflicts.Statement.{statement}
+use Rattle.listing.proofs.conflicts.Tie as tie
+
+returns : tie.Need-returns
+returns c =
+    conflicts-are _ _ _ _ (c .fits .near .fits) (c .fits .far .fits) (c .fits .positive .fits) (c .fits .negative .fits)
+
+pub conflicts-spec : {M : Type 1} → statement M
+conflicts-spec = tie.close (tie.spec returns)
