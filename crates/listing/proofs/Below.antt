@@ -276,7 +276,7 @@ module _ (g : SignedGraph) (so : Sound g) (k : ℕ) (d : Node) (h : Valid g d) w
           ))
 
       -- one that does not is below the node with v left out
-      below-out : Below d x → mem v (x .vertices) ≡ false → Below (leaveOut d v) x
+      pub below-out : Below d x → mem v (x .vertices) ≡ false → Below (leaveOut d v) x
       below-out b off =
           let not-l = refute (mem v (x .left)) (λ m. clash (mem v (x .vertices)) (listed-left lx v m) off) in
           let not-r = refute (mem v (x .right)) (λ m. clash (mem v (x .vertices)) (listed-right lx v m) off) in

@@ -1,12 +1,13 @@
 -- Fewer vertices are undecided once one goes in or is left out. Assumes nothing.
 use Prim.Native.Nat.{ℕ, _^_, _≤_, _<_}
+use native.Mathlib.Nat.{lt-of-le-of-lt}
 use native.Mathlib.Omega.{arith}
 use mathlib.Core.Path.{_≡_, sym, ap₂, _∙_, subst}
 use mathlib.Core.Bool.{true, false}
-use lib.Bits.{bitAnd, bitOr}
+use lib.Bits.{bitAnd, bitOr, and-le-r}
 use Rattle.vertex_set.specs.Sets.{mem, Subset, size, lowest}
 use Rattle.vertex_set.proofs.Booleans.{clash, refute}
-use Rattle.vertex_set.proofs.Membership.{union-cases, union-mono, meet-left}
+use Rattle.vertex_set.proofs.Membership.{union-cases, union-mono, meet-left, meet-right}
 use Rattle.vertex_set.proofs.Ranges.{count-less}
 use Rattle.vertex_set.proofs.Sizes.{size-subset}
 use Rattle.vertex_set.proofs.LowestVertex.{lowest-lt, lowest-in}
@@ -61,6 +62,20 @@ decides-lowest t d e is-t fewer u is-u fits some v is-v =
       here = ap₂ mem is-v (sym is-u) ∙ lowest-in u (omega arith) fits;
       few = subst (λ (z : ℕ). size (undecided e) ≤ z) is-t (size-subset (undecided e) (undecided d) fewer);
     }
+
+-- v is the lowest of some of those undecided at d
+pub decides-among : (t : ℕ) (d : Node) → size (undecided d) ≡ t → (some u : ℕ) → u ≡ undecided d → u < 2 ^ 64
+    → (bitAnd some u ≡ 0 → ⊥) → (v : ℕ) → v ≡ lowest (bitAnd some u) → Decides t d v
+decides-among t d is-t some u is-u fits pos v is-v =
+    record {
+      small = subst (λ (z : ℕ). z < 64) (sym is-v) (lowest-lt (bitAnd some u) (omega arith) small);
+      here = ap₂ mem is-v (sym is-u)
+          ∙ meet-right (lowest (bitAnd some u)) some u (lowest-in (bitAnd some u) (omega arith) small);
+      few = omega (arith, is-t);
+    }
+  where
+    small : bitAnd some u < 2 ^ 64
+    small = lt-of-le-of-lt (and-le-r some u) fits
 
 module _ {t : ℕ} {e : Node} {v : ℕ} (h : Decides t e v) where
   child-falls : (child next : Node) → child ≡ next → Subset (undecided next) (undecided e) → mem v (undecided next) ≡ false

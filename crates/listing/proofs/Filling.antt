@@ -3,23 +3,25 @@ use Prim.Native.Nat.{ℕ, _+_, _-_, _*_, _/_, _≤_, _<_, min}
 use native.Mathlib.Nat.{min-zero}
 use native.Mathlib.Omega.{arith}
 use mathlib.Core.Path.{_≡_, refl, sym, ap, ap₂, _∙_, subst}
+use mathlib.Core.Bool.{Bool, true, false}
 use mathlib.Core.List.{List, [], _∷_, _++_}
 use lib.Dec.{leb}
 use lib.ListN.{length, take, drop, length-append, length-take, length-drop}
 use lib.Seq.{take-all, take-append-le}
 use borrow.Rule.Slice.PartMut.{putMid}
-use borrow.Author.Tests.{le-leb, lt-leb}
+use borrow.Author.Tests.{le-leb, lt-leb, eq-eqb, ne-eqb}
 use Rattle.vertex_set.proofs.Buffers.{Laid, laid-piece, laid-end}
 use Rattle.signed_graph.specs.declared.Check.the-variants.{Accepted}
 use Rattle.listing.specs.declared.Bookmark.{Bookmark}
 use Rattle.listing.specs.declared.Bookmark.the-variants.{After}
 use Rattle.listing.specs.declared.End.the-variants.{Finished, More}
 use Rattle.listing.specs.declared.Page.{Page}
+use Rattle.listing.specs.declared.Tally.{Tally}
 use Rattle.listing.specs.Listing.{Item}
 use Rattle.listing.specs.Records.{recordOf}
 use Rattle.listing.specs.Pages.{finishedIf, nextMark, records, answer, filled}
 use Rattle.listing.specs.Calls.{setOf}
-use Rattle.listing.specs.Filling.{Holds}
+use Rattle.listing.specs.Filling.{Holds, markAfter, Adds}
 use Rattle.listing.proofs.Records.{record-wide}
 use Rattle.listing.proofs.Pages.{records-append, length-records, finished-if}
 
@@ -184,3 +186,39 @@ module _ (m : Bookmark) (buffer : List ℕ) where
                   ∙ ap (λ (n : ℕ). records recordOf met ++ drop (16 * n) buffer) (sym all);
               fits = omega (arith, long-records, room);
             }
+
+-- ---- what is kept while the page is filled
+
+module _ (m : Bookmark) (count last : ℕ) where
+  pub mark-none : count ≡ 0 → markAfter m count last ≡ m
+  unfolding markAfter
+  mark-none e = ap (λ (b : Bool). elim b [ true ↦ m | false ↦ After last ]) (eq-eqb count 0 e)
+
+  pub mark-some : (count ≡ 0 → ⊥) → markAfter m count last ≡ After last
+  unfolding markAfter
+  mark-some e = ap (λ (b : Bool). elim b [ true ↦ m | false ↦ After last ]) (ne-eqb count 0 e)
+
+module _ (m : Bookmark) (tally : Tally) (entry : List ℕ) (x : Item) where
+  -- with a record more
+  pub adds-next : (last : List ℕ) (idle : ℕ) → tally .count < length entry / 16 →
+      let at : ℕ = 16 * tally .count in
+      last ≡ recordOf x ++ drop 16 (take (length entry - at) (drop at entry))
+      → Adds m (x ∷ []) tally entry (record { count = tally .count + 1; last = x .vertices; more = false; idle = idle })
+      (putMid at (length entry - at) entry last)
+  adds-next last idle some is =
+      record {
+        adds = λ buffer met h.
+            subst (λ (p : Page). Holds m buffer (met ++ x ∷ []) p (putMid (16 * tally .count) (length entry - 16 * tally .count) entry last))
+            (λ i. record {
+              outcome = Accepted;
+              count = tally .count + 1;
+              next = sym (mark-some m (tally .count + 1) (x .vertices) (λ e. omega arith)) i;
+              end = Finished;
+            })
+            (holds-next m buffer h x last some is);
+      }
+
+  -- with no place for it
+  pub adds-more : (idle : ℕ) → length entry / 16 ≤ tally .count
+      → Adds m (x ∷ []) tally entry (record { count = tally .count; last = tally .last; more = true; idle = idle }) entry
+  adds-more idle full = record { adds = λ buffer met h. holds-more m buffer h x full }

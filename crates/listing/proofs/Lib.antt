@@ -15,5 +15,6 @@ pub mod SoleConflicts
 pub mod Leaves
 pub mod FreeVertices
 pub mod Advances
+pub mod BarrenBranches
 pub mod Search
 pub mod Bests

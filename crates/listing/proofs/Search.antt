@@ -1,7 +1,7 @@
 -- What a page holds after each way that the search takes from a node. Assumes nothing.
 use Prim.Native.Nat.{ℕ, _^_, _≤_, _<_}
 use native.Mathlib.Omega.{arith}
-use mathlib.Core.Path.{_≡_, sym, ap, _∙_, subst}
+use mathlib.Core.Path.{_≡_, refl, sym, ap, _∙_, subst}
 use mathlib.Core.Bool.{Bool, true, false, _&&_}
 use mathlib.Core.List.{List, [], _∷_, _++_, List·Memᴰ, append-nil, append-assoc}
 use lib.ListN.{getD}
@@ -12,22 +12,21 @@ use Rattle.vertex_set.proofs.Lists.{selected, select-from, select-keeps, sorted
 use Rattle.vertex_set.proofs.Membership.{union-cases}
 use Rattle.vertex_set.proofs.LowestVertex.{lowest-lt, lowest-in, lowest-le, lowest-least}
 use Rattle.signed_graph.specs.declared.SignedGraph.{SignedGraph}
-use Rattle.signed_graph.specs.declared.Check.the-variants.{Accepted}
 use Rattle.signed_graph.specs.Graphs.{vertices}
 use Rattle.signed_graph.specs.Soundness.{sound}
 use Rattle.signed_graph.proofs.Soundness.{Sound, to-sound}
 use Rattle.clique.proofs.Balance.{usable-64}
 use Rattle.listing.specs.declared.Bookmark.{Bookmark}
-use Rattle.listing.specs.declared.End.the-variants.{Finished, More}
 use Rattle.listing.specs.declared.Page.{Page}
+use Rattle.listing.specs.declared.Tally.{Tally}
 use Rattle.listing.specs.declared.Node.{Node}
 use Rattle.listing.specs.declared.Progress.{Progress}
 use Rattle.listing.specs.Listing.{Item, Listed, comesBefore, listing}
 use Rattle.listing.specs.Pages.{dueAt}
 use Rattle.listing.specs.Calls.{setOf, dueGroups}
-use Rattle.listing.specs.Filling.{Holds, Past}
+use Rattle.listing.specs.Filling.{Holds, Past, endAt, markAfter, pageAt, Adds}
 use Rattle.listing.specs.Nodes.{chosen, undecided, rootOf, putIn, leaveOut, withVertex, Valid, Below, Barren, Same, leafItem, groupAt}
-use Rattle.listing.specs.Search.{Advances, dueBelow, leafItems, Adds, ListsLeaf, Lists}
+use Rattle.listing.specs.Search.{Advances, FindsBarren, dueBelow, leafItems, Lists}
 use Rattle.listing.proofs.Listing.{listing-sorted, listing-exact}
 use Rattle.listing.proofs.Filling.{holds-none, holds-full}
 use Rattle.listing.proofs.Bookmarks.{due-select}
@@ -138,83 +137,107 @@ module _ (g : SignedGraph) (so : Sound g) (k : ℕ) (m : Bookmark) where
 
 -- ---- what a page holds
 
-module _ {from : Bookmark} {page : Page} {entry : List ℕ} where
-  adds-none : {items : List Item} → items ≡ [] → Adds from items page entry page entry
-  adds-none e buffer met h =
-      subst (λ (x : List Item). Holds from buffer x page entry) (sym (ap (λ (x : List Item). met ++ x) e ∙ append-nil met)) h
+module _ {from : Bookmark} {tally : Tally} {entry : List ℕ} where
+  adds-none : {items : List Item} → items ≡ [] → Adds from items tally entry tally entry
+  adds-none e =
+      record {
+        adds = λ buffer met h.
+            subst (λ (x : List Item). Holds from buffer x (pageAt from tally) entry)
+            (sym (ap (λ (x : List Item). met ++ x) e ∙ append-nil met)) h;
+      }
 
   -- a full page stays
-  adds-full : (items : List Item) → page .end ≡ More → Adds from items page entry page entry
-  adds-full items more buffer met h = holds-full from buffer h more items
+  adds-full : (items : List Item) → tally .more ≡ true → Adds from items tally entry tally entry
+  adds-full items more = record { adds = λ buffer met h. holds-full from buffer h (ap endAt more) items }
 
-  module _ {after : Page} {exit : List ℕ} where
-    adds-as : {xs ys : List Item} → xs ≡ ys → Adds from ys page entry after exit → Adds from xs page entry after exit
-    adds-as e = subst (λ (x : List Item). Adds from x page entry after exit) (sym e)
+  module _ {after : Tally} {exit : List ℕ} where
+    adds-as : {xs ys : List Item} → xs ≡ ys → Adds from ys tally entry after exit → Adds from xs tally entry after exit
+    adds-as e = subst (λ (x : List Item). Adds from x tally entry after exit) (sym e)
 
-    adds-both : {xs ys : List Item} {first : Page} {mid : List ℕ} → Adds from xs page entry first mid
-        → Adds from ys first mid after exit → Adds from (xs ++ ys) page entry after exit
-    adds-both {xs} {ys} a b buffer met h =
-        subst (λ (x : List Item). Holds from buffer x after exit) (append-assoc met xs ys) (b buffer (met ++ xs) (a buffer met h))
+    adds-both : {xs ys : List Item} {first : Tally} {mid : List ℕ} → Adds from xs tally entry first mid
+        → Adds from ys first mid after exit → Adds from (xs ++ ys) tally entry after exit
+    adds-both {xs} {ys} a b =
+        record {
+          adds = λ buffer met h.
+              subst (λ (x : List Item). Holds from buffer x (pageAt from after) exit) (append-assoc met xs ys)
+              (b .adds buffer (met ++ xs) (a .adds buffer met h));
+        }
+
+-- the same page after so many nodes in vain
+abbrev idling : Tally → ℕ → Tally
+idling t idle = record { count = t .count; last = t .last; more = t .more; idle = idle }
 
 -- ---- a leaf
 
-module _ (k : ℕ) (from : Bookmark) (d : Node) (page : Page) (entry : List ℕ) where
-  pub lists-other : groupAt k d ≡ false → ListsLeaf k from d page entry page entry
+module _ (k : ℕ) (from : Bookmark) (d : Node) (tally : Tally) (entry : List ℕ) where
+  pub lists-other : groupAt k d ≡ false → Adds from (leafItems k from d) tally entry tally entry
   lists-other e = adds-none (leaf-other k from d e)
 
-  pub lists-late : dueAt from (chosen d) ≡ false → ListsLeaf k from d page entry page entry
+  pub lists-late : dueAt from (chosen d) ≡ false → Adds from (leafItems k from d) tally entry tally entry
   lists-late e = adds-none (leaf-late k from d e)
 
-  pub lists-put : groupAt k d ≡ true → dueAt from (chosen d) ≡ true → (after : Page) (exit : List ℕ)
-      → ((m : Bookmark) → Adds m (leafItem d ∷ []) page entry after exit) → ListsLeaf k from d page entry after exit
+  pub lists-put : groupAt k d ≡ true → dueAt from (chosen d) ≡ true → (after : Tally) (exit : List ℕ)
+      → ((m : Bookmark) → Adds m (leafItem d ∷ []) tally entry after exit) → Adds from (leafItems k from d) tally entry after exit
   lists-put e f after exit put = adds-as (leaf-there k from d e f) (put from)
 
 -- ---- a node
 
-module _ (positive negative : List ℕ) (k : ℕ) (from : Bookmark) (d : Node) (page : Page) (entry : List ℕ) where
-  pub lists-past : (c u v : ℕ) → c ≡ chosen d → u ≡ undecided d → v ≡ lowest u → Past from c v
-      → Lists positive negative k from d page entry page entry
-  lists-past c u v is-c is-u is-v past n so va =
-      let p = subst (λ (z : ℕ). Past from z (lowest (undecided d))) is-c (subst (Past from c) (is-v ∙ ap lowest is-u) past) in
-      adds-none (past-due _ (to-sound _ so) k from d va p)
+pub advances-as : {top d : Node} → top ≡ d → (positive negative : List ℕ) (k : ℕ) (a : Progress) → Advances positive negative k top a
+    → Advances positive negative k d a
+advances-as is positive negative k a = subst (λ (e : Node). Advances positive negative k e a) is
+
+module _ (positive negative : List ℕ) (k : ℕ) (from : Bookmark) (d : Node) (tally : Tally) (entry : List ℕ) where
+  pub lists-past : (v : ℕ) → v ≡ lowest (undecided d) → Past from (chosen d) v
+      → Lists positive negative k from d tally entry tally entry
+  lists-past v is-v past n so va =
+      adds-none (past-due _ (to-sound _ so) k from d va (subst (Past from (chosen d)) is-v past))
 
   module _ (a : Progress) (adv : Advances positive negative k d a) where
-    pub lists-barren : a .barren ≡ true → Lists positive negative k from d page entry page entry
+    pub lists-barren : a .barren ≡ true → Lists positive negative k from d tally entry tally entry
     lists-barren e n so va = adds-none (none-due _ (to-sound _ so) k from d (adv n so va .0 e))
 
     module _ (e : a .barren ≡ false) where
-      pub lists-leaf : (after : Page) (exit : List ℕ) (u : ℕ) → u ≡ undecided (a .node) → u ≡ 0
-          → ListsLeaf k from (a .node) page entry after exit → Lists positive negative k from d page entry after exit
+      pub lists-leaf : (after : Tally) (exit : List ℕ) (u : ℕ) → u ≡ undecided (a .node) → u ≡ 0
+          → Adds from (leafItems k from (a .node)) tally entry after exit → Lists positive negative k from d tally entry after exit
       lists-leaf after exit u is-u done leaf n so va =
           adds-as (leaf-due _ (to-sound _ so) k from (adv n so va .1 e) (sym is-u ∙ done)) leaf
 
       -- the page after the branch with v is `first`
       module _ (u v : ℕ) (is-u : u ≡ undecided (a .node)) (some : u ≡ 0 → ⊥) (is-v : v ≡ lowest u) (in-child : Node)
-          (in-is : in-child ≡ putIn (a .node) v (getD positive v 0) (getD negative v 0)) (first : Page) (mid : List ℕ)
-          (went : Lists positive negative k from in-child page entry first mid) where
+          (in-is : in-child ≡ putIn (a .node) v (getD positive v 0) (getD negative v 0)) (first : Tally) (mid : List ℕ)
+          (went : Lists positive negative k from in-child tally entry first mid) where
         is : v ≡ lowest (undecided (a .node))
         is = is-v ∙ ap lowest is-u
 
         undecided-some : 0 < undecided (a .node)
         undecided-some = omega (arith, some)
 
-        in-lists : Lists positive negative k from (putIn (a .node) v (getD positive v 0) (getD negative v 0)) page entry first mid
-        in-lists = subst (λ (x : Node). Lists positive negative k from x page entry first mid) in-is went
+        in-lists : Lists positive negative k from (putIn (a .node) v (getD positive v 0) (getD negative v 0)) tally entry first mid
+        in-lists = subst (λ (x : Node). Lists positive negative k from x tally entry first mid) in-is went
 
-        pub lists-full : first .end ≡ More → Lists positive negative k from d page entry first mid
+        pub lists-full : first .more ≡ true → Lists positive negative k from d tally entry first mid
         lists-full more n so va =
             let s = adv n so va .1 e in
             adds-as (step-due _ (to-sound _ so) k from s v is undecided-some)
             (adds-both (in-lists n so (step-in _ (to-sound _ so) k from s v is undecided-some)) (adds-full _ more))
 
-        pub lists-both : (out-child : Node) → out-child ≡ leaveOut (a .node) v → (after : Page) (exit : List ℕ)
-            → Lists positive negative k from out-child first mid after exit → Lists positive negative k from d page entry after exit
-        lists-both out-child out-is after exit went-out n so va =
-            let s = adv n so va .1 e in
-            let out-lists = subst (λ (x : Node). Lists positive negative k from x first mid after exit) out-is went-out in
-            adds-as (step-due _ (to-sound _ so) k from s v is undecided-some)
-            (adds-both (in-lists n so (step-in _ (to-sound _ so) k from s v is undecided-some))
-            (out-lists n so (step-out _ (to-sound _ so) k from s v is undecided-some)))
+        module _ (out-child : Node) (out-is : out-child ≡ leaveOut (a .node) v) where
+          pub lists-both : (idle : ℕ) (after : Tally) (exit : List ℕ)
+              → Lists positive negative k from out-child (idling first idle) mid after exit
+              → Lists positive negative k from d tally entry after exit
+          lists-both idle after exit went-out n so va =
+              let s = adv n so va .1 e in
+              let out-lists = subst (λ (x : Node). Lists positive negative k from x (idling first idle) mid after exit) out-is went-out in
+              adds-as (step-due _ (to-sound _ so) k from s v is undecided-some)
+              (adds-both (in-lists n so (step-in _ (to-sound _ so) k from s v is undecided-some))
+              (record { adds = out-lists n so (step-out _ (to-sound _ so) k from s v is undecided-some) .adds }))
+
+          -- it was seen to have none
+          pub lists-in : FindsBarren positive negative k out-child true → (idle : ℕ)
+              → Lists positive negative k from d tally entry (idling first idle) mid
+          lists-in barren idle =
+              lists-both idle (idling first idle) mid
+              (λ n so va. adds-none (none-due _ (to-sound _ so) k from out-child (barren refl n so va)))
 
 -- ---- the root
 
@@ -224,14 +247,16 @@ all-due g so k m =
     (λ x i. (i, root-below g k x (due-listed g so k m x i))) (λ x i b. i)
 
 -- a page with no record yet
-abbrev emptyPage : Bookmark → Page
-emptyPage from = record { outcome = Accepted; count = 0; next = from; end = Finished }
+abbrev emptyTally : Tally
+emptyTally = record { count = 0; last = 0; more = false; idle = 0 }
 
-pub lists-all : (g : SignedGraph) (k : ℕ) (from : Bookmark) (buffer : List ℕ) (all : ℕ) (top : Node) (after : Page) (exit : List ℕ)
-    → sound g ≡ true → all ≡ vertices g → top ≡ rootOf all
-    → Lists (g .positive) (g .negative) k from top (emptyPage from) buffer after exit
-    → Holds from buffer (dueGroups g k from) after exit
-lists-all g k from buffer all top after exit so is-all is-top went =
-    subst (λ (x : List Item). Holds from buffer x after exit) (all-due g (to-sound g so) k from)
-    (subst (λ (x : Node). Lists (g .positive) (g .negative) k from x (emptyPage from) buffer after exit)
-    (is-top ∙ ap rootOf is-all) went (g .n) so (root-valid g) buffer [] (holds-none from buffer))
+pub lists-all : (g : SignedGraph) (k : ℕ) (from : Bookmark) (buffer : List ℕ) (all : ℕ) (after : Tally) (exit : List ℕ) (page : Page)
+    → sound g ≡ true → all ≡ vertices g
+    → Lists (g .positive) (g .negative) k from (rootOf all) emptyTally buffer after exit → page ≡ pageAt from after
+    → Holds from buffer (dueGroups g k from) page exit
+unfolding markAfter
+lists-all g k from buffer all after exit page so is-all went is-page =
+    subst (λ (p : Page). Holds from buffer (dueGroups g k from) p exit) (sym is-page)
+    (subst (λ (x : List Item). Holds from buffer x (pageAt from after) exit) (all-due g (to-sound g so) k from)
+    (subst (λ (x : Node). Lists (g .positive) (g .negative) k from x emptyTally buffer after exit)
+    (ap rootOf is-all) went (g .n) so (root-valid g) .adds buffer [] (holds-none from buffer)))

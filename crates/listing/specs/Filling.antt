@@ -1,12 +1,18 @@
 -- A page that is filled group by group, and what a bookmark leaves behind. Assumes nothing.
 use Prim.Native.Nat.{ℕ, _<_}
 use mathlib.Core.Path.{_≡_}
-use mathlib.Core.Bool.{false}
-use mathlib.Core.List.{List}
+use mathlib.Core.Bool.{Bool, true, false}
+use mathlib.Core.List.{List, _++_}
+use lib.Dec.{eqb}
 use lib.ListN.{length}
 use Rattle.vertex_set.specs.Sets.{mem}
+use Rattle.signed_graph.specs.declared.Check.the-variants.{Accepted}
 use Rattle.listing.specs.declared.Bookmark.{Bookmark}
+use Rattle.listing.specs.declared.Bookmark.the-variants.{After}
+use Rattle.listing.specs.declared.End.{End}
+use Rattle.listing.specs.declared.End.the-variants.{Finished, More}
 use Rattle.listing.specs.declared.Page.{Page}
+use Rattle.listing.specs.declared.Tally.{Tally}
 use Rattle.listing.specs.Listing.{Item}
 use Rattle.listing.specs.Records.{recordOf}
 use Rattle.listing.specs.Pages.{dueAt, answer, filled}
@@ -16,6 +22,22 @@ use Rattle.listing.specs.Calls.{setOf}
 pub record Holds (m : Bookmark) (buffer : List ℕ) (met : List Item) (page : Page) (out : List ℕ) : Type 0 where
   pub answered : page ≡ answer setOf 16 m (length buffer) met
   pub wrote : out ≡ filled recordOf 16 met buffer
+
+-- where the page after this one starts, and whether groups are due behind it; the page, from what is kept while it is filled
+unfoldable pub markAfter : Bookmark → ℕ → ℕ → Bookmark
+markAfter m count last = elim (eqb count 0) [ true ↦ m | false ↦ After last ]
+
+abbrev pub endAt : Bool → End
+endAt true = More
+endAt false = Finished
+
+abbrev pub pageAt : Bookmark → Tally → Page
+pageAt m t = record { outcome = Accepted; count = t .count; next = markAfter m (t .count) (t .last); end = endAt (t .more) }
+
+-- where the page held the due groups met so far, it now holds these too
+pub record Adds (m : Bookmark) (items : List Item) (tally : Tally) (entry : List ℕ) (after : Tally) (exit : List ℕ) : Type 0 where
+  pub adds : (buffer : List ℕ) (met : List Item) → Holds m buffer met (pageAt m tally) entry
+      → Holds m buffer (met ++ items) (pageAt m after) exit
 
 -- no set that has, below v, exactly the vertices of c is due
 abbrev pub Past : Bookmark → ℕ → ℕ → Type 0

@@ -56,6 +56,14 @@ passedOver s v =
       excluded = bitOr (s .excluded) (bitAnd (s .candidates) (single v));
     }
 
+-- the node with these chosen, candidates and excluded of the left and of the right
+abbrev pub nodeOf : ℕ → ℕ → ℕ → ℕ → ℕ → ℕ → Node
+nodeOf lc lp lx rc rp rx =
+    record {
+      left = record { chosen = lc; candidates = lp; excluded = lx };
+      right = record { chosen = rc; candidates = rp; excluded = rx };
+    }
+
 -- where the search starts: these vertices are undecided, and nothing is chosen or left out
 abbrev pub rootOf : ℕ → Node
 rootOf all =

@@ -1,9 +1,9 @@
 -- What the functions of the search promise of a node, over the tables of a sound graph. Assumes nothing.
 use Prim.Native.Nat.{ℕ}
 use mathlib.Core.Path.{_≡_}
-use mathlib.Core.Logic.{_≢_}
-use mathlib.Core.Bool.{true, false, _&&_}
-use mathlib.Core.List.{List, [], _∷_, _++_}
+use mathlib.Core.Logic.{_≢_, _⊎_}
+use mathlib.Core.Bool.{Bool, true, false, _&&_}
+use mathlib.Core.List.{List, [], _∷_}
 use lib.Dec.{ltb}
 use lib.ListN.{getD}
 use Rattle.vertex_set.specs.Sets.{mem, Subset}
@@ -11,7 +11,8 @@ use Rattle.signed_graph.specs.declared.SignedGraph.{SignedGraph}
 use Rattle.signed_graph.specs.Soundness.{sound}
 use Rattle.listing.specs.declared.Bookmark.{Bookmark}
 use Rattle.listing.specs.declared.Bookmark.the-variants.{Start}
-use Rattle.listing.specs.declared.Page.{Page}
+use Rattle.listing.specs.declared.Tally.{Tally}
+use Rattle.listing.specs.declared.Fewest.{Fewest}
 use Rattle.listing.specs.declared.Best.{Best}
 use Rattle.listing.specs.declared.Node.{Node}
 use Rattle.listing.specs.declared.Fitting.{Fitting}
@@ -20,7 +21,7 @@ use Rattle.listing.specs.Listing.{Item}
 use Rattle.listing.specs.Pages.{dueAt}
 use Rattle.listing.specs.Calls.{dueGroups}
 use Rattle.listing.specs.Largest.{sizeOf}
-use Rattle.listing.specs.Filling.{Holds}
+use Rattle.listing.specs.Filling.{Adds}
 use Rattle.listing.specs.Nodes.{chosen, Valid, FreeOn, Sole, Held, Barren, Same, itemsBelow, groupAt, leafItem}
 
 -- the graph of n vertices with these tables; what holds of every such graph that is sound and in which the node is valid
@@ -77,6 +78,30 @@ abbrev pub Advances : List ℕ → List ℕ → ℕ → Node → Progress → Ty
 Advances positive negative k d a =
     InSound positive negative d (λ g. (a .barren ≡ true → Barren g k d) × (a .barren ≡ false → Same g k d (a .node)))
 
+-- ---- where no group is below
+
+-- the smaller of what was found and a set of candidates has none only where one of them has none
+abbrev pub Fewer : Fewest → ℕ → Fewest → Type 0
+Fewer found candidates r = r .none ≡ true → (found .none ≡ true) ⊎ (candidates ≡ 0)
+
+-- a vertex of `excluded` fits on its side beside every candidate
+abbrev pub Unopposed : List ℕ → List ℕ → ℕ → ℕ → ℕ → Type 0
+Unopposed positive negative excluded near far = (u : ℕ) → Sole positive negative excluded near far u
+
+abbrev pub FewestConflicts : List ℕ → List ℕ → ℕ → ℕ → ℕ → Fewest → Fewest → Type 0
+FewestConflicts positive negative excluded near far found r =
+    r .none ≡ true → (found .none ≡ true) ⊎ Unopposed positive negative excluded near far
+
+abbrev pub Narrowest : List ℕ → List ℕ → Node → Fewest → Type 0
+Narrowest positive negative d r =
+    r .none ≡ true
+    → Unopposed positive negative (d .left .excluded) (d .left .candidates) (d .right .candidates)
+    ⊎ Unopposed positive negative (d .right .excluded) (d .right .candidates) (d .left .candidates)
+
+-- a test says barren only of a node with no group below
+abbrev pub FindsBarren : List ℕ → List ℕ → ℕ → Node → Bool → Type 0
+FindsBarren positive negative k d barren = barren ≡ true → InSound positive negative d (λ g. Barren g k d)
+
 -- ---- the groups due, on a page
 
 -- those below a node; where nothing is undecided, its chosen set if that is a group and due
@@ -86,17 +111,9 @@ dueBelow g k from d = itemsBelow d (dueGroups g k from)
 abbrev pub leafItems : ℕ → Bookmark → Node → List Item
 leafItems k from d = elim (groupAt k d && dueAt from (chosen d)) [ true ↦ leafItem d ∷ [] | false ↦ [] ]
 
--- where the page held the due groups met so far, it now holds these too
-abbrev pub Adds : Bookmark → List Item → Page → List ℕ → Page → List ℕ → Type 0
-Adds from items page entry after exit =
-    (buffer : List ℕ) (met : List Item) → Holds from buffer met page entry → Holds from buffer (met ++ items) after exit
-
-abbrev pub ListsLeaf : ℕ → Bookmark → Node → Page → List ℕ → Page → List ℕ → Type 0
-ListsLeaf k from d page entry after exit = Adds from (leafItems k from d) page entry after exit
-
-abbrev pub Lists : List ℕ → List ℕ → ℕ → Bookmark → Node → Page → List ℕ → Page → List ℕ → Type 0
-Lists positive negative k from d page entry after exit =
-    InSound positive negative d (λ g. Adds from (dueBelow g k from d) page entry after exit)
+abbrev pub Lists : List ℕ → List ℕ → ℕ → Bookmark → Node → Tally → List ℕ → Tally → List ℕ → Type 0
+Lists positive negative k from d tally entry after exit =
+    InSound positive negative d (λ g. Adds from (dueBelow g k from d) tally entry after exit)
 
 -- ---- the largest group
 

@@ -4,8 +4,8 @@ use signed_graph::Refusal;
 use signed_graph::SignedGraph;
 ghost use mathlib.Core.Path.{_≡_};
 ghost use mathlib.Core.Bool.{true};
-ghost use mathlib.Core.List.{List, [], _∷_, _++_};
-ghost use Prim.Native.Nat.{ℕ, _≤_};
+ghost use mathlib.Core.List.{[], _∷_, _++_};
+ghost use Prim.Native.Nat.{_≤_};
 ghost use lib.ListN.{length, drop};
 ghost use lib.Bits.{bitOr};
 ghost use Rattle.vertex_set.specs.Sets.{Subset};
@@ -13,16 +13,16 @@ ghost use Rattle.signed_graph.specs.Soundness.{sound};
 ghost use Rattle.signed_graph.specs.Calls.{numberOf, refusalNumber};
 ghost use Rattle.clique.specs.Order as order;
 ghost use Rattle.listing.specs.declared.Bookmark.the-variants as bookmark;
-ghost use Rattle.listing.specs.Listing.{Item, listing};
+ghost use Rattle.listing.specs.Listing.{listing};
 ghost use Rattle.listing.specs.Records.{bytesOf, sidesRecord, recordAt};
 ghost use Rattle.listing.specs.Pages.{dueAt};
 ghost use Rattle.listing.specs.Calls.{dueGroups, pageOf, pageBytes};
 ghost use Rattle.listing.specs.Largest as finding;
 ghost use Rattle.listing.specs.Largest.{largestOf, answerTo, largestGroup, largestNumber};
-ghost use Rattle.listing.specs.Filling.{Holds, Past};
+ghost use Rattle.listing.specs.Filling.{Holds, Past, markAfter, endAt, pageAt, Adds};
 ghost use Rattle.listing.specs.Nodes as nodes;
-ghost use Rattle.listing.specs.Nodes.{narrowed, joined, passedOver, putIn, putOpen, leaveOut, short, groupAt, rootOf};
-ghost use Rattle.listing.specs.Search.{Beside, otherWay, FreeSides, Conflicts, Only, Requires, HeldByAll, Settles, Advances, leafItems, ListsLeaf, Lists, bestOf, Finds};
+ghost use Rattle.listing.specs.Nodes.{nodeOf, narrowed, joined, passedOver, putIn, putOpen, leaveOut, short, groupAt, rootOf};
+ghost use Rattle.listing.specs.Search.{Beside, otherWay, FreeSides, Conflicts, Only, Requires, HeldByAll, Settles, Advances, Fewer, FewestConflicts, Narrowest, FindsBarren, leafItems, Lists, bestOf, Finds};
 
 // Where a page starts: at the first group, or after a set in listing order.
 pub enum Bookmark {
@@ -56,6 +56,15 @@ pub struct LargestGroup {
     pub outcome: Finding,
     pub left: u64,
     pub right: u64,
+}
+
+// A page that is being filled: how many records it has, the vertices of the last, and whether a due group had no place. Of the last
+// field nothing is promised: it has how many nodes were visited since a group was met or a test of a branch failed.
+struct Tally {
+    count: usize,
+    last: u64,
+    more: bool,
+    idle: u64,
 }
 
 // A side of the groups that a node of the search stands for: the vertices that all of them hold, those that are undecided and
@@ -134,31 +143,61 @@ fn write_record(left: u64, right: u64, out: &mut [u8])
 }
 
 // A page with one due group more: its record goes behind those already written; where there is no place for it, there is more.
-fn put_group(page: Page, left: u64, right: u64, out: &mut [u8]) -> Page
-    ensures { λ r. ⌜ ((m : Bookmark) (buffer : List ℕ) (met : List Item) → Holds m buffer met page (now (out .entry))
-        → Holds m buffer (met ++ record { vertices = bitOr left right; left = left; right = right } ∷ []) r (now (out .exit))) ⌝ }
+fn put_group(tally: Tally, left: u64, right: u64, out: &mut [u8]) -> Tally
+    ensures { λ r. ⌜ ((m : Bookmark) → Adds m (record { vertices = bitOr left right; left = left; right = right } ∷ []) tally (now (out .entry)) r (now (out .exit))) ⌝ }
 {
-    let count = page.count;
-    let next = page.next;
+    let count = tally.count;
     let room = out.len() / 16;
     if count < room {
         let at = 16 * count;
         write_record(left, right, &mut out[at..]);
         let grown = count + 1;
-        Page {
-            outcome: Check::Accepted,
+        Tally {
             count: grown,
-            next: Bookmark::After(left | right),
-            end: End::Finished,
+            last: left | right,
+            more: false,
+            idle: 0,
         }
     } else {
-        let end = End::More;
-        Page {
-            outcome: Check::Accepted,
+        Tally {
             count,
-            next,
-            end,
+            last: tally.last,
+            more: true,
+            idle: 0,
         }
+    }
+}
+
+// Where the page after this one starts.
+fn next_mark(from: Bookmark, count: usize, last: u64) -> Bookmark
+    ensures { λ r. ⌜ r ≡ markAfter from count last ⌝ }
+{
+    if count == 0 {
+        return from;
+    }
+    Bookmark::After(last)
+}
+
+fn end_of(more: bool) -> End
+    ensures { λ r. ⌜ r ≡ endAt more ⌝ }
+{
+    if more {
+        return End::More;
+    }
+    End::Finished
+}
+
+// The page as it is.
+fn page_at(from: Bookmark, tally: Tally) -> Page
+    ensures { λ r. ⌜ r ≡ pageAt from tally ⌝ }
+{
+    let next = next_mark(from, tally.count, tally.last);
+    let end = end_of(tally.more);
+    Page {
+        outcome: Check::Accepted,
+        count: tally.count,
+        next,
+        end,
     }
 }
 
@@ -532,60 +571,311 @@ fn is_group(at: Node, k: u64) -> bool
     )
 }
 
+// The fewest candidates that a vertex that was left out does not fit beside, how many they are, and whether there are none.
+struct Fewest {
+    none: bool,
+    count: u64,
+    candidates: u64,
+}
+
+// The smaller of what was found so far and another set of candidates.
+fn fewer(found: Fewest, candidates: u64) -> Fewest
+    ensures { λ r. ⌜ Fewer found candidates r ⌝ }
+{
+    let count = vertex_set::size(candidates);
+    if count < found.count {
+        return Fewest {
+            none: candidates == 0,
+            count,
+            candidates,
+        };
+    }
+    found
+}
+
+// The fewest candidates that a vertex of `excluded` does not fit beside, or what was found so far.
+fn fewest_conflicts<'a>(
+    excluded: u64,
+    near: u64,
+    far: u64,
+    found: Fewest,
+    positive: &'a [u64; 64],
+    negative: &'a [u64; 64],
+) -> Fewest
+    ensures { λ r. ⌜ FewestConflicts (now (positive .entry)) (now (negative .entry)) excluded near far found r ⌝ }
+{
+    let mut best = found;
+    let mut left = excluded;
+    while left != 0 {
+        let x = vertex_set::lowest(left);
+        best = fewer(best, conflicts(near, far, positive[x], negative[x]));
+        left = left & (left - 1);
+    }
+    best
+}
+
+// The fewest candidates of a node that a vertex that was left out does not fit beside: every group below holds one of them.
+fn narrowest<'a>(at: Node, positive: &'a [u64; 64], negative: &'a [u64; 64]) -> Fewest
+    ensures { λ r. ⌜ Narrowest (now (positive .entry)) (now (negative .entry)) at r ⌝ }
+{
+    let left = at.left;
+    let right = at.right;
+    let unknown = Fewest {
+        none: false,
+        count: 65,
+        candidates: 0,
+    };
+    let first = fewest_conflicts(
+        left.excluded,
+        left.candidates,
+        right.candidates,
+        unknown,
+        positive,
+        negative,
+    );
+    fewest_conflicts(
+        right.excluded,
+        right.candidates,
+        left.candidates,
+        first,
+        positive,
+        negative,
+    )
+}
+
+// Whether a test found that no group is below a node, and the nodes that it may still visit.
+struct Tested {
+    barren: bool,
+    fuel: u64,
+}
+
+// Barren only where no group for k is below the node. It branches where fewest candidates can keep an excluded vertex from joining,
+// and gives up where the fuel ends.
+fn lacks_group<'a>(
+    at: Node,
+    k: u64,
+    positive: &'a [u64; 64],
+    negative: &'a [u64; 64],
+    fuel: u64,
+) -> Tested
+    ensures { λ r. ⌜ FindsBarren (now (positive .entry)) (now (negative .entry)) k at (r .barren) ⌝ }
+{
+    if is_short(at, k) {
+        return Tested { barren: true, fuel };
+    }
+    let left = at.left;
+    let fewest = narrowest(at, positive, negative);
+    if fewest.none {
+        return Tested { barren: true, fuel };
+    }
+    let open = fewest.candidates & undecided(at);
+    if open == 0 {
+        return Tested {
+            barren: false,
+            fuel,
+        };
+    }
+    if left.chosen == 0 {
+        return Tested {
+            barren: false,
+            fuel,
+        };
+    }
+    if fuel == 0 {
+        return Tested {
+            barren: false,
+            fuel,
+        };
+    }
+    let u = vertex_set::lowest(open);
+    let first = lacks_group(
+        put_in(at, u, positive[u], negative[u]),
+        k,
+        positive,
+        negative,
+        fuel - 1,
+    );
+    if !first.barren {
+        return first;
+    }
+    lacks_group(leave_out(at, u), k, positive, negative, first.fuel)
+}
+
+// After this many nodes without a group a branch is tested before it is entered, and a test visits at most so many nodes.
+const PATIENCE: u64 = 512;
+
+const FUEL: u64 = 2048;
+
+// Whether a branch was seen to have no group, and how many nodes count as visited in vain.
+struct Outlook {
+    barren: bool,
+    idle: u64,
+}
+
+// Barren only where no group for k is below the node; tested only where enough nodes were visited in vain.
+fn look_ahead<'a>(
+    at: Node,
+    k: u64,
+    positive: &'a [u64; 64],
+    negative: &'a [u64; 64],
+    idle: u64,
+) -> Outlook
+    ensures { λ r. ⌜ FindsBarren (now (positive .entry)) (now (negative .entry)) k at (r .barren) ⌝ }
+{
+    if idle < PATIENCE {
+        return Outlook {
+            barren: false,
+            idle: idle + 1,
+        };
+    }
+    let tested = lacks_group(at, k, positive, negative, FUEL);
+    if tested.barren {
+        return Outlook { barren: true, idle };
+    }
+    Outlook {
+        barren: false,
+        idle: 0,
+    }
+}
+
 // The page with the chosen set of a node with nothing undecided, where that is a group and due.
-fn list_leaf(at: Node, k: u64, from: Bookmark, page: Page, out: &mut [u8]) -> Page
-    ensures { λ r. ⌜ ListsLeaf k from at page (now (out .entry)) r (now (out .exit)) ⌝ }
+fn list_leaf(at: Node, k: u64, from: Bookmark, tally: Tally, out: &mut [u8]) -> Tally
+    ensures { λ r. ⌜ Adds from (leafItems k from at) tally (now (out .entry)) r (now (out .exit)) ⌝ }
 {
     let left = at.left;
     let right = at.right;
     if !is_group(at, k) {
-        return page;
+        return tally;
     }
     if !is_due(from, left.chosen | right.chosen) {
-        return page;
+        return tally;
     }
-    put_group(page, left.chosen, right.chosen, out)
+    put_group(tally, left.chosen, right.chosen, out)
 }
 
-// The page with the groups below a node that are due, in listing order, behind those that it has.
-fn list_below<'a>(
+// Whether a bookmark's set has, below v, exactly the vertices of `chosen`.
+fn leads_to(from: Bookmark, chosen: u64, v: usize) -> bool {
+    match from {
+        Bookmark::Start => false,
+        Bookmark::After(t) => vertex_set::below(v as u64) & (chosen ^ t) == 0,
+    }
+}
+
+// As `propagate`, where this is no node on the way to the bookmark: there it would be in vain.
+fn propagate_off<'a>(
     at: Node,
+    on_the_way: bool,
+    k: u64,
+    positive: &'a [u64; 64],
+    negative: &'a [u64; 64],
+) -> Progress
+    ensures { λ r. ⌜ Subset (nodes.undecided (r .node)) (nodes.undecided at) ⌝ }
+    ensures { λ r. ⌜ Advances (now (positive .entry)) (now (negative .entry)) k at r ⌝ }
+{
+    if on_the_way {
+        return Progress {
+            barren: false,
+            moved: false,
+            node: at,
+        };
+    }
+    propagate(at, k, positive, negative)
+}
+
+// The node with these sides.
+fn node_of(lc: u64, lp: u64, lx: u64, rc: u64, rp: u64, rx: u64) -> Node
+    ensures { λ r. ⌜ r ≡ nodeOf lc lp lx rc rp rx ⌝ }
+{
+    Node {
+        left: Side {
+            chosen: lc,
+            candidates: lp,
+            excluded: lx,
+        },
+        right: Side {
+            chosen: rc,
+            candidates: rp,
+            excluded: rx,
+        },
+    }
+}
+
+// The page with the groups below a node that are due, in listing order, behind those that it has. The node goes as six numbers, the
+// chosen, the candidates and the excluded of the left and of the right: they stay in registers.
+fn list_below<'a>(
+    lc: u64,
+    lp: u64,
+    lx: u64,
+    rc: u64,
+    rp: u64,
+    rx: u64,
     k: u64,
     from: Bookmark,
     positive: &'a [u64; 64],
     negative: &'a [u64; 64],
-    page: Page,
+    tally: Tally,
     out: &mut [u8],
-) -> Page
-    ensures { λ r. ⌜ Lists (now (positive .entry)) (now (negative .entry)) k from at page (now (out .entry)) r (now (out .exit)) ⌝ }
+) -> Tally
+    ensures { λ r. ⌜ Lists (now (positive .entry)) (now (negative .entry)) k from (nodeOf lc lp lx rc rp rx) tally (now (out .entry)) r (now (out .exit)) ⌝ }
 {
-    if is_past(from, chosen(at), vertex_set::lowest(undecided(at))) {
-        return page;
+    let at = node_of(lc, lp, lx, rc, rp, rx);
+    let next = vertex_set::lowest(lp | rp);
+    if is_past(from, lc | rc, next) {
+        return tally;
     }
-    let step = propagate(at, k, positive, negative);
+    let step = propagate_off(at, leads_to(from, lc | rc, next), k, positive, negative);
     if step.barren {
-        return page;
+        return tally;
     }
     let node = step.node;
     let open = undecided(node);
     if open == 0 {
-        return list_leaf(node, k, from, page, out);
+        return list_leaf(node, k, from, tally, out);
     }
     let v = vertex_set::lowest(open);
+    let a = put_in(node, v, positive[v], negative[v]);
     let first = list_below(
-        put_in(node, v, positive[v], negative[v]),
+        a.left.chosen,
+        a.left.candidates,
+        a.left.excluded,
+        a.right.chosen,
+        a.right.candidates,
+        a.right.excluded,
         k,
         from,
         positive,
         negative,
-        page,
+        tally,
         out,
     );
-    let end = first.end;
-    match end {
-        End::More => first,
-        End::Finished => list_below(leave_out(node, v), k, from, positive, negative, first, out),
+    if first.more {
+        return first;
     }
+    let b = leave_out(node, v);
+    let ahead = look_ahead(b, k, positive, negative, first.idle);
+    let rest = Tally {
+        count: first.count,
+        last: first.last,
+        more: first.more,
+        idle: ahead.idle,
+    };
+    if ahead.barren {
+        return rest;
+    }
+    list_below(
+        b.left.chosen,
+        b.left.candidates,
+        b.left.excluded,
+        b.right.chosen,
+        b.right.candidates,
+        b.right.excluded,
+        k,
+        from,
+        positive,
+        negative,
+        rest,
+        out,
+    )
 }
 
 // The node with these vertices undecided and nothing chosen or left out.
@@ -608,14 +898,28 @@ fn list_sound(g: SignedGraph, k: u64, from: Bookmark, out: &mut [u8]) -> Page
     requires { ⌜ sound g ≡ true ⌝ }
     ensures { λ r. ⌜ Holds from (now (out .entry)) (dueGroups g k from) r (now (out .exit)) ⌝ }
 {
-    let page = Page {
-        outcome: Check::Accepted,
+    let empty = Tally {
         count: 0,
-        next: from,
-        end: End::Finished,
+        last: 0,
+        more: false,
+        idle: 0,
     };
     let all = vertex_set::below(g.n);
-    list_below(root(all), k, from, &g.positive, &g.negative, page, out)
+    let tally = list_below(
+        0,
+        all,
+        0,
+        0,
+        all,
+        0,
+        k,
+        from,
+        &g.positive,
+        &g.negative,
+        empty,
+        out,
+    );
+    page_at(from, tally)
 }
 
 // The records of the first groups for k that are due at a bookmark, as many as fit, at the front of `out`.

@@ -1,16 +1,16 @@
 -- `listing::put_group` meets its contract. Assumes nothing.
 use borrow.Author.Needs.{needs}
-use Rattle.listing.proofs.Filling.{holds-more, holds-next}
+use Rattle.listing.proofs.Filling.{adds-more, adds-next}
 use Rattle.listing.proofs.put_group.Statement.{statement}
 use Rattle.listing.proofs.put_group.Tie as tie
 
 returns : tie.Need-returns
-returns c m buffer met h =
+returns c m =
     let b = c .before .before .before .before in
-    holds-next m buffer h _ _ (b .if1 .taken) (c .before .before .write-record .ensures)
+    adds-next m _ _ _ _ _ (b .if1 .taken) (c .before .before .write-record .ensures)
 
 returns-2 : tie.Need-returns-2
-returns-2 c m buffer met h = holds-more m buffer h _ (c .if1 .left)
+returns-2 c m = adds-more m _ _ _ _ (c .if1 .left)
 
 pub put-group-spec : {M : Type 1} → statement M
 put-group-spec =

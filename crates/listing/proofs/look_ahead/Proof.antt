@@ -1,0 +1,13 @@
+-- `listing::look_ahead` meets its contract. Assumes nothing.
+use borrow.Author.Needs.{needs}
+use Rattle.listing.proofs.BarrenBranches.{no-claim}
+use Rattle.listing.proofs.look_ahead.Statement.{statement}
+use Rattle.listing.proofs.look_ahead.Tie as tie
+
+returns-2 : tie.Need-returns-2
+returns-2 c _ = c .before .lacks-group .ensures (c .if2 .taken)
+
+pub look-ahead-spec : {M : Type 1} → statement M
+look-ahead-spec =
+    tie.close (tie.spec
+    (λ c. search needs) (λ c. no-claim _ _ _ _) (λ c κs. search needs) returns-2 (λ c. no-claim _ _ _ _))
