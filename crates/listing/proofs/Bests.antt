@@ -2,18 +2,17 @@
 use Prim.Native.Nat.{ℕ, _^_, _≤_, _<_}
 use native.Mathlib.Omega.{arith}
 use native.Mathlib.Decide.{ℕ-discrete}
-use mathlib.Core.Path.{_≡_, refl, sym, ap, ap₂, _∙_, subst}
+use mathlib.Core.Path.{_≡_, refl, sym, ap, _∙_, subst}
 use mathlib.Core.Bool.{Bool, true, false}
 use mathlib.Core.List.{List, [], _∷_, _++_}
 use mathlib.Core.Option.{Option, none, some}
 use lib.Dec.{leb, ltb}
 use lib.ListN.{getD}
-use lib.Bits.{bitOr}
-use borrow.Author.Tests.{ltb-true, ltb-false, lt-ltb, le-ltb}
+use borrow.Author.Tests.{ltb-true, ltb-false, lt-ltb, le-ltb, not-true}
 use Rattle.vertex_set.specs.Lists.{All}
-use Rattle.vertex_set.specs.Sets.{mem, Subset, size, lowest}
+use Rattle.vertex_set.specs.Sets.{size, lowest}
 use Rattle.vertex_set.proofs.Lists.{mem-all}
-use Rattle.vertex_set.proofs.Sizes.{size-none, size-subset}
+use Rattle.vertex_set.proofs.Sizes.{size-none}
 use Rattle.signed_graph.specs.declared.SignedGraph.{SignedGraph}
 use Rattle.signed_graph.specs.Graphs.{vertices}
 use Rattle.signed_graph.specs.Soundness.{sound}
@@ -24,18 +23,20 @@ use Rattle.listing.specs.declared.Bookmark.the-variants.{Start}
 use Rattle.listing.specs.declared.Finding.the-variants.{Found, NoGroup}
 use Rattle.listing.specs.declared.Node.{Node}
 use Rattle.listing.specs.declared.Best.{Best}
-use Rattle.listing.specs.declared.Progress.{Progress}
-use Rattle.listing.specs.Listing.{Item, Listed, listing}
+use Rattle.listing.specs.Listing.{Item, listing}
 use Rattle.listing.specs.Pages.{due}
 use Rattle.listing.specs.Calls.{dueGroups}
 use Rattle.listing.specs.Largest.{sizeOf, larger, largestOf, answerTo, largestBy, largestGroup, numberOf, largestNumberBy, largestNumber}
-use Rattle.listing.specs.Nodes.{chosen, undecided, whole, rootOf, putIn, leaveOut, withVertex, Below, leafItem, groupAt}
-use Rattle.listing.specs.Search.{graphOf, Advances, dueBelow, leafItems, bestItem, better, bestOf, Finds}
-use Rattle.listing.proofs.Listing.{listing-sorted, listing-exact, listed-cases}
+use Rattle.listing.specs.Nodes.{chosen, undecided, rootOf, putIn, leaveOut, withVertex, Valid, Same, short, leafItem, groupAt}
+use Rattle.listing.specs.Search.{graphOf, dueBelow, leafItems}
+use Rattle.listing.specs.Bounds.{ForSound, Outdone}
+use Rattle.listing.specs.Bests.{bestItem, better, bestOf, Finds}
+use Rattle.listing.proofs.Listing.{listing-sorted, listing-exact}
 use Rattle.listing.proofs.LargestOf.{largest-found}
-use Rattle.listing.proofs.Nodes.{whole-left, whole-right}
 use Rattle.listing.proofs.Below.{of-below}
+use Rattle.listing.proofs.Prunes.{short-barren}
 use Rattle.listing.proofs.Leaves.{root-valid}
+use Rattle.listing.proofs.NodeBounds.{outdone-below}
 use Rattle.listing.proofs.Search.{leaf-there, leaf-other, due-listed, none-due, leaf-due, step-in, step-out, step-due, all-due}
 
 -- ---- lists
@@ -102,55 +103,48 @@ module _ (k : ℕ) (d : Node) (b : Best) where
 
 -- ---- a node
 
+same-refl : {g : SignedGraph} {k : ℕ} {d : Node} → Valid g d → Same g k d d
+same-refl va = record { valid = va; to = λ x _ b. b; from = λ x _ b. b }
+
 module _ (positive negative : List ℕ) (k : ℕ) (d : Node) (b : Best) where
-  -- no set below has more vertices than the largest so far
-  pub finds-none : (c u : ℕ) → c ≡ chosen d → u ≡ undecided d → size (bitOr c u) ≤ b .size → Finds positive negative k d b b
-  finds-none c u is-c is-u h n so va =
+  -- no group below has more vertices than the largest so far
+  pub finds-none : ForSound positive negative (λ g. Outdone g (chosen d) (d .left .candidates) (d .right .candidates) (b .size))
+      → Finds positive negative k d b b
+  finds-none h n so va =
       let g = graphOf n positive negative in
       sym (best-stays b (dueBelow g k Start d) (mem-all (λ x. sizeOf x ≤ b .size) (dueBelow g k Start d) (λ x i.
       let r = of-below d (dueGroups g k Start) x i in
-      few x (due-listed g (to-sound g so) k Start x (r .0)) (r .1))))
-    where
-      few : {g : SignedGraph} (x : Item) → Listed g k x → Below d x → sizeOf x ≤ b .size
-      few x lx bl =
-          let e : size (bitOr c u) ≡ size (whole d) = ap₂ (λ (y z : ℕ). size (bitOr y z)) is-c is-u in
-          omega (arith, size-subset (x .vertices) (whole d) within)
-        where
-          within : Subset (x .vertices) (whole d)
-          within p m =
-              listed-cases lx p (mem p (whole d) ≡ true) m
-              (λ y. whole-left d p (bl .left .only p y)) (λ y. whole-right d p (bl .right .only p y))
+      outdone-below d (b .size) (h n so) (due-listed g (to-sound g so) k Start x (r .0)) (r .1))))
 
-  module _ (a : Progress) (adv : Advances positive negative k d a) where
-    pub finds-barren : a .barren ≡ true → Finds positive negative k d b b
-    unfolding bestOf
-    finds-barren e n so va = sym (ap (bestOf b) (none-due _ (to-sound _ so) k Start d (adv n so va .0 e)))
+  pub finds-short : short k d ≡ true → Finds positive negative k d b b
+  unfolding bestOf short
+  finds-short e n so va =
+      sym (ap (bestOf b) (none-due _ (to-sound _ so) k Start d (short-barren _ (to-sound _ so) k d (not-true _ e))))
 
-    module _ (e : a .barren ≡ false) where
-      pub finds-leaf : (after : Best) (u : ℕ) → u ≡ undecided (a .node) → u ≡ 0 → after ≡ bestOf b (leafItems k Start (a .node))
-          → Finds positive negative k d b after
-      finds-leaf after u is-u done is n so va =
-          is ∙ ap (bestOf b) (sym (leaf-due _ (to-sound _ so) k Start (adv n so va .1 e) (sym is-u ∙ done)))
+  pub finds-leaf : (after : Best) (u : ℕ) → u ≡ undecided d → u ≡ 0 → after ≡ bestOf b (leafItems k Start d)
+      → Finds positive negative k d b after
+  finds-leaf after u is-u done is n so va =
+      is ∙ ap (bestOf b) (sym (leaf-due _ (to-sound _ so) k Start (same-refl va) (sym is-u ∙ done)))
 
-      pub finds-both : (u v : ℕ) → u ≡ undecided (a .node) → (u ≡ 0 → ⊥) → v ≡ lowest u
-          → (in-child : Node) → in-child ≡ putIn (a .node) v (getD positive v 0) (getD negative v 0)
-          → (first : Best) → Finds positive negative k in-child b first
-          → (out-child : Node) → out-child ≡ leaveOut (a .node) v
-          → (after : Best) → Finds positive negative k out-child first after → Finds positive negative k d b after
-      finds-both u v is-u some-u is-v in-child in-is first one out-child out-is after two n so va =
-          let g = graphOf n positive negative in
-          let gs = to-sound g so in
-          let s = adv n so va .1 e in
-          let is = is-v ∙ ap lowest is-u in
-          let pos : 0 < undecided (a .node) = omega (arith, some-u) in
-          let A = dueBelow g k Start (withVertex g (a .node) v) in
-          let B = dueBelow g k Start (leaveOut (a .node) v) in
-          let first-is : first ≡ bestOf b A =
-          subst (λ (x : Node). Finds positive negative k x b first) in-is one n so (step-in g gs k Start s v is pos) in
-          let after-is : after ≡ bestOf first B =
-          subst (λ (x : Node). Finds positive negative k x first after) out-is two n so (step-out g gs k Start s v is pos) in
-          after-is ∙ ap (λ (x : Best). bestOf x B) first-is ∙ sym (best-append b A B)
-          ∙ ap (bestOf b) (sym (step-due g gs k Start s v is pos))
+  pub finds-both : (u v : ℕ) → u ≡ undecided d → (u ≡ 0 → ⊥) → v ≡ lowest u
+      → (in-child : Node) → in-child ≡ putIn d v (getD positive v 0) (getD negative v 0)
+      → (first : Best) → Finds positive negative k in-child b first
+      → (out-child : Node) → out-child ≡ leaveOut d v
+      → (after : Best) → Finds positive negative k out-child first after → Finds positive negative k d b after
+  finds-both u v is-u some-u is-v in-child in-is first one out-child out-is after two n so va =
+      let g = graphOf n positive negative in
+      let gs = to-sound g so in
+      let s : Same g k d d = same-refl va in
+      let is = is-v ∙ ap lowest is-u in
+      let pos : 0 < undecided d = omega (arith, some-u) in
+      let A = dueBelow g k Start (withVertex g d v) in
+      let B = dueBelow g k Start (leaveOut d v) in
+      let first-is : first ≡ bestOf b A =
+      subst (λ (x : Node). Finds positive negative k x b first) in-is one n so (step-in g gs k Start s v is pos) in
+      let after-is : after ≡ bestOf first B =
+      subst (λ (x : Node). Finds positive negative k x first after) out-is two n so (step-out g gs k Start s v is pos) in
+      after-is ∙ ap (λ (x : Best). bestOf x B) first-is ∙ sym (best-append b A B)
+      ∙ ap (bestOf b) (sym (step-due g gs k Start s v is pos))
 
 -- ---- the root
 
@@ -169,12 +163,12 @@ module _ (g : SignedGraph) (k : ℕ) (so : sound g ≡ true) where
       go (yes z) fits pos = absurd (let n : y .vertices ≡ 0 = size-none (y .vertices) fits z in omega arith)
       go (no z) fits pos = omega arith
 
-  module _ (all : ℕ) (top : Node) (best : Best) (is-all : all ≡ vertices g) (is-top : top ≡ rootOf all)
-      (went : Finds (g .positive) (g .negative) k top nothing best) where
+  module _ (all : ℕ) (best : Best) (is-all : all ≡ vertices g)
+      (went : Finds (g .positive) (g .negative) k (rootOf all) nothing best) where
     best-is : best ≡ against nothing (largestOf (listing g k))
     unfolding due
     best-is =
-        subst (λ (x : Node). Finds (g .positive) (g .negative) k x nothing best) (is-top ∙ ap rootOf is-all) went
+        subst (λ (x : ℕ). Finds (g .positive) (g .negative) k (rootOf x) nothing best) is-all went
         (g .n) so (root-valid g)
         ∙ ap (bestOf nothing) (all-due g (to-sound g so) k Start) ∙ best-largest nothing (listing g k)
 

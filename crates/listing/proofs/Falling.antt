@@ -43,7 +43,7 @@ out-fewer d v =
 
 -- ---- their number falls
 
-size-falls : (v a b : ℕ) → v < 64 → Subset a b → mem v b ≡ true → mem v a ≡ false → size a < size b
+pub size-falls : (v a b : ℕ) → v < 64 → Subset a b → mem v b ≡ true → mem v a ≡ false → size a < size b
 unfolding size
 size-falls v a b small sub on off = count-less (λ p. mem p a) (λ p. mem p b) 64 v (λ p _. sub p) small off on
 

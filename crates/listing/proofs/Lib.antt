@@ -8,6 +8,8 @@ pub mod Filling
 pub mod Bookmarks
 pub mod Nodes
 pub mod Falling
+pub mod SizeBounds
+pub mod Colours
 pub mod Below
 pub mod Prunes
 pub mod Settling
@@ -17,4 +19,5 @@ pub mod FreeVertices
 pub mod Advances
 pub mod BarrenBranches
 pub mod Search
+pub mod NodeBounds
 pub mod Bests

@@ -6,3 +6,5 @@ pub mod Largest
 pub mod Filling
 pub mod Nodes
 pub mod Search
+pub mod Bounds
+pub mod Bests

@@ -4,23 +4,19 @@ use mathlib.Core.Path.{_≡_}
 use mathlib.Core.Logic.{_≢_, _⊎_}
 use mathlib.Core.Bool.{Bool, true, false, _&&_}
 use mathlib.Core.List.{List, [], _∷_}
-use lib.Dec.{ltb}
 use lib.ListN.{getD}
 use Rattle.vertex_set.specs.Sets.{mem, Subset}
 use Rattle.signed_graph.specs.declared.SignedGraph.{SignedGraph}
 use Rattle.signed_graph.specs.Soundness.{sound}
 use Rattle.listing.specs.declared.Bookmark.{Bookmark}
-use Rattle.listing.specs.declared.Bookmark.the-variants.{Start}
 use Rattle.listing.specs.declared.Tally.{Tally}
 use Rattle.listing.specs.declared.Fewest.{Fewest}
-use Rattle.listing.specs.declared.Best.{Best}
 use Rattle.listing.specs.declared.Node.{Node}
 use Rattle.listing.specs.declared.Fitting.{Fitting}
 use Rattle.listing.specs.declared.Progress.{Progress}
 use Rattle.listing.specs.Listing.{Item}
 use Rattle.listing.specs.Pages.{dueAt}
 use Rattle.listing.specs.Calls.{dueGroups}
-use Rattle.listing.specs.Largest.{sizeOf}
 use Rattle.listing.specs.Filling.{Adds}
 use Rattle.listing.specs.Nodes.{chosen, Valid, FreeOn, Sole, Held, Barren, Same, itemsBelow, groupAt, leafItem}
 
@@ -114,21 +110,3 @@ leafItems k from d = elim (groupAt k d && dueAt from (chosen d)) [ true ↦ leaf
 abbrev pub Lists : List ℕ → List ℕ → ℕ → Bookmark → Node → Tally → List ℕ → Tally → List ℕ → Type 0
 Lists positive negative k from d tally entry after exit =
     InSound positive negative d (λ g. Adds from (dueBelow g k from d) tally entry after exit)
-
--- ---- the largest group
-
--- the larger of the largest group so far and another; the one so far where they have as many vertices
-abbrev pub bestItem : Item → Best
-bestItem x = record { size = sizeOf x; left = x .left; right = x .right }
-
-abbrev pub better : Best → Item → Best
-better b x = elim (ltb (b .size) (sizeOf x)) [ true ↦ bestItem x | false ↦ b ]
-
--- the largest of the largest group so far and those of a list
-unfoldable pub bestOf : Best → List Item → Best
-bestOf b [] = b
-bestOf b (x ∷ l) = bestOf (better b x) l
-
--- of the largest group so far and those below the node, the largest
-abbrev pub Finds : List ℕ → List ℕ → ℕ → Node → Best → Best → Type 0
-Finds positive negative k d b r = InSound positive negative d (λ g. r ≡ bestOf b (dueBelow g k Start d))

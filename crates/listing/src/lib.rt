@@ -1,4 +1,6 @@
 // The groups of a graph by pages, in listing order, the largest of them, and a record looked up in a listing.
+mod bounds;
+
 use signed_graph::Check;
 use signed_graph::Refusal;
 use signed_graph::SignedGraph;
@@ -21,8 +23,10 @@ ghost use Rattle.listing.specs.Largest as finding;
 ghost use Rattle.listing.specs.Largest.{largestOf, answerTo, largestGroup, largestNumber};
 ghost use Rattle.listing.specs.Filling.{Holds, Past, markAfter, endAt, pageAt, Adds};
 ghost use Rattle.listing.specs.Nodes as nodes;
-ghost use Rattle.listing.specs.Nodes.{nodeOf, narrowed, joined, passedOver, putIn, putOpen, leaveOut, short, groupAt, rootOf};
-ghost use Rattle.listing.specs.Search.{Beside, otherWay, FreeSides, Conflicts, Only, Requires, HeldByAll, Settles, Advances, Fewer, FewestConflicts, Narrowest, FindsBarren, leafItems, Lists, bestOf, Finds};
+ghost use Rattle.listing.specs.Nodes.{nodeOf, narrowed, joined, passedOver, putIn, putOpen, leaveOut, short, groupAt};
+ghost use Rattle.listing.specs.Search.{Beside, otherWay, FreeSides, Conflicts, Only, Requires, HeldByAll, Settles, Advances, Fewer, FewestConflicts, Narrowest, FindsBarren, leafItems, Lists};
+ghost use Rattle.listing.specs.Bounds.{ForSound, Outdone};
+ghost use Rattle.listing.specs.Bests.{bestOf, Finds};
 
 // Where a page starts: at the first group, or after a set in listing order.
 pub enum Bookmark {
@@ -878,21 +882,6 @@ fn list_below<'a>(
     )
 }
 
-// The node with these vertices undecided and nothing chosen or left out.
-fn root(all: u64) -> Node
-    ensures { λ r. ⌜ r ≡ rootOf all ⌝ }
-{
-    let side = Side {
-        chosen: 0,
-        candidates: all,
-        excluded: 0,
-    };
-    Node {
-        left: side,
-        right: side,
-    }
-}
-
 // The page of a sound graph.
 fn list_sound(g: SignedGraph, k: u64, from: Bookmark, out: &mut [u8]) -> Page
     requires { ⌜ sound g ≡ true ⌝ }
@@ -959,37 +948,96 @@ fn largest_leaf(at: Node, k: u64, best: Best) -> Best
     }
 }
 
-// The largest of the largest group so far and of the groups below a node; of equals, the first.
+// True only where no group has more than `most` vertices that is the chosen ones and some of these for the left and the right.
+fn outdone<'a>(
+    chosen: u64,
+    left: u64,
+    right: u64,
+    most: u64,
+    positive: &'a [u64; 64],
+    negative: &'a [u64; 64],
+) -> bool
+    ensures { λ r. ⌜ (r ≡ true → ForSound (now (positive .entry)) (now (negative .entry)) (λ g. Outdone g chosen left right most)) ⌝ }
+{
+    let have = vertex_set::size(chosen);
+    if most < have {
+        return false;
+    }
+    bounds::colours_within(left, right, most - have, positive, negative)
+}
+
+// The largest of the largest group so far and of the groups below a node, given by its sides; of equals, the first.
 fn largest_below<'a>(
-    at: Node,
+    left: u64,
+    left_candidates: u64,
+    left_excluded: u64,
+    right: u64,
+    right_candidates: u64,
+    right_excluded: u64,
     k: u64,
     positive: &'a [u64; 64],
     negative: &'a [u64; 64],
     best: Best,
 ) -> Best
-    ensures { λ r. ⌜ Finds (now (positive .entry)) (now (negative .entry)) k at best r ⌝ }
+    ensures { λ r. ⌜ Finds (now (positive .entry)) (now (negative .entry)) k
+        (nodeOf left «left_candidates» «left_excluded» right «right_candidates» «right_excluded») best r ⌝ }
 {
-    if vertex_set::size(chosen(at) | undecided(at)) <= best.size {
+    if outdone(
+        left | right,
+        left_candidates,
+        right_candidates,
+        best.size,
+        positive,
+        negative,
+    ) {
         return best;
     }
-    let step = advance(at, k, positive, negative);
-    if step.barren {
+    let at = Node {
+        left: Side {
+            chosen: left,
+            candidates: left_candidates,
+            excluded: left_excluded,
+        },
+        right: Side {
+            chosen: right,
+            candidates: right_candidates,
+            excluded: right_excluded,
+        },
+    };
+    if is_short(at, k) {
         return best;
     }
-    let node = step.node;
-    let open = undecided(node);
+    let open = undecided(at);
     if open == 0 {
-        return largest_leaf(node, k, best);
+        return largest_leaf(at, k, best);
     }
     let v = vertex_set::lowest(open);
+    let with = put_in(at, v, positive[v], negative[v]);
     let first = largest_below(
-        put_in(node, v, positive[v], negative[v]),
+        with.left.chosen,
+        with.left.candidates,
+        with.left.excluded,
+        with.right.chosen,
+        with.right.candidates,
+        with.right.excluded,
         k,
         positive,
         negative,
         best,
     );
-    largest_below(leave_out(node, v), k, positive, negative, first)
+    let without = leave_out(at, v);
+    largest_below(
+        without.left.chosen,
+        without.left.candidates,
+        without.left.excluded,
+        without.right.chosen,
+        without.right.candidates,
+        without.right.excluded,
+        k,
+        positive,
+        negative,
+        first,
+    )
 }
 
 // The largest group for k of a sound graph.
@@ -1003,7 +1051,7 @@ fn largest_sound(g: SignedGraph, k: u64) -> LargestGroup
         right: 0,
     };
     let all = vertex_set::below(g.n);
-    let best = largest_below(root(all), k, &g.positive, &g.negative, none);
+    let best = largest_below(0, all, 0, 0, all, 0, k, &g.positive, &g.negative, none);
     if best.size == 0 {
         return LargestGroup {
             outcome: Finding::NoGroup,

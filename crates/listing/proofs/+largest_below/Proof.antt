@@ -1,19 +1,21 @@
 -- `listing::largest_below` meets its contract. The vertices still undecided fall in number at each call of itself. Assumes nothing.
 use Prim.Native.Nat.{ℕ, _<_}
 use native.Mathlib.Omega.{arith}
+use mathlib.Core.Path.{sym, _∙_}
+use lib.Bits.{bitOr}
 use borrow.Author.Needs.{needs}
 use borrow.Fn.Kinds.{In}
 use borrow.Fn.PlainCycle.{Measures, is, falls, and}
 use Rattle.vertex_set.specs.Sets.{size}
 use Rattle.vertex_set.proofs.lowest.Reads as lowest-reads
-use Rattle.vertex_set.proofs.size.Reads as size-reads
-use Rattle.listing.specs.Nodes.{undecided}
+use Rattle.listing.specs.declared.Node.{Node}
+use Rattle.listing.specs.Nodes.{nodeOf}
 use Rattle.listing.proofs.Falling.{Decides, decides-lowest, put-falls, out-falls}
-use Rattle.listing.proofs.Bests.{finds-none, finds-barren, finds-leaf, finds-both}
-use Rattle.listing.proofs.advance.Reads as advance-reads
-use Rattle.listing.proofs.chosen.Reads as chosen-reads
+use Rattle.listing.proofs.Bests.{finds-none, finds-short, finds-leaf, finds-both}
+use Rattle.listing.proofs.is_short.Reads as is-short-reads
 use Rattle.listing.proofs.largest_leaf.Reads as largest-leaf-reads
 use Rattle.listing.proofs.leave_out.Reads as leave-out-reads
+use Rattle.listing.proofs.outdone.Reads as outdone-reads
 use Rattle.listing.proofs.put_in.Reads as put-in-reads
 use Rattle.listing.proofs.undecided.Reads as undecided-reads
 use Rattle.listing.proofs.largest_below.Reads as reads
@@ -23,7 +25,7 @@ use Rattle.listing.proofs.+largest_below.Lts-largest_below as lts
 use Rattle.listing.proofs.+largest_below.Tie.{close}
 
 abbrev μ : Measures 1 kinds.ps ℕ
-μ κs a = size (undecided (a .0))
+μ κs a = size (bitOr (a .1 .0) (a .1 .1 .1 .1 .0))
 
 -- at a call the measure is t, and at the calls of itself it is less
 abbrev Starts : ℕ → In 1 kinds.ps
@@ -35,14 +37,12 @@ Falls t = and 1 kinds.ps (falls 1 kinds.ps _<_ μ t) reads.Pre
 -- what the calls ask and give
 abbrev calls : ℕ → lts.Claims
 calls t = (
-  chosen-reads.Asked,
-  chosen-reads.Learnt,
+  outdone-reads.Asked,
+  outdone-reads.Learnt,
+  is-short-reads.Asked,
+  is-short-reads.Learnt,
   undecided-reads.Asked,
   undecided-reads.Learnt,
-  size-reads.Asked,
-  size-reads.Learnt,
-  advance-reads.Asked,
-  advance-reads.Learnt,
   largest-leaf-reads.Asked,
   largest-leaf-reads.Learnt,
   lowest-reads.Asked,
@@ -56,35 +56,33 @@ calls t = (
 )
 
 module _ (t : ℕ) where
+  -- the node
+  abbrev node : lts.Start (calls t) (Starts t) reads.Post → Node
+  node c =
+      nodeOf (c .args .left) (c .args .left-candidates) (c .args .left-excluded)
+      (c .args .right) (c .args .right-candidates) (c .args .right-excluded)
+
   -- the vertex to decide
   decides : (c : lts.After-lowest (calls t) (Starts t) reads.Post)
-      → Decides t (c .before .before .before .before .before .advance .result .node) (c .lowest .result)
+      → Decides t (node (c .before .before .before .before .before .before .before)) (c .lowest .result)
   decides c =
-      let u = c .before .before .undecided2 in
-      let step = c .before .before .before .before .before in
-      let start = step .before .before .before .before .before .before in
-      decides-lowest t (start .args .at) (step .advance .result .node) (start .pre .0) (step .advance .ensures .0)
+      let u = c .before .before .undecided in
+      let start = c .before .before .before .before .before .before .before in
+      decides-lowest t (node start) (node start) (start .pre .0) (λ p m. m)
       (u .result) (u .ensures) (u .ok) (c .before .if3 .left) (c .lowest .result) (c .lowest .ensures)
 
   returns : lts.Need-returns (calls t) (Starts t) reads.Post
-  returns c =
-      let size = c .before .before in
-      let u = size .before in
-      let h = u .before .chosen in
-      finds-none _ _ _ _ _ (h .result) (u .undecided .result) (h .ensures) (u .undecided .ensures)
-      (omega (arith, size .size .ensures, c .if1 .taken))
+  returns c = finds-none _ _ _ (node (c .before .before)) _ (c .before .outdone .ensures (c .if1 .taken))
 
   returns-2 : lts.Need-returns-2 (calls t) (Starts t) reads.Post
   returns-2 c =
-      let step = c .before .advance in
-      finds-barren _ _ _ _ _ (step .result) (step .ensures .1) (c .if2 .taken)
+      let short = c .before in
+      finds-short _ _ _ (node (short .before .before .before)) _ (sym (short .is-short .ensures) ∙ c .if2 .taken)
 
   returns-3 : lts.Need-returns-3 (calls t) (Starts t) reads.Post
   returns-3 c =
       let u = c .before .before in
-      let fertile = u .before .before in
-      let step = fertile .before .advance in
-      finds-leaf _ _ _ _ _ (step .result) (step .ensures .1) (fertile .if2 .left) _ _ (u .undecided2 .ensures)
+      finds-leaf _ _ _ (node (u .before .before .before .before .before)) _ _ _ (u .undecided .ensures)
       (c .before .if3 .taken) (c .largest-leaf .ensures)
 
   returns-4 : lts.Need-returns-4 (calls t) (Starts t) reads.Post
@@ -92,17 +90,13 @@ module _ (t : ℕ) where
       let first = c .before .before in
       let put = first .before in
       let v = put .before .before .before in
-      let u = v .before .before .undecided2 in
-      let fertile = v .before .before .before .before in
-      let step = fertile .before .advance in
-      finds-both _ _ _ _ _ (step .result) (step .ensures .1) (fertile .if2 .left) (u .result) (v .lowest .result)
-      (u .ensures) (v .before .if3 .left) (v .lowest .ensures) _ (put .put-in .ensures) _ (first .largest-below .ensures)
+      let u = v .before .before in
+      finds-both _ _ _ (node (u .before .before .before .before .before)) _ (u .undecided .result) (v .lowest .result)
+      (u .undecided .ensures) (v .before .if3 .left) (v .lowest .ensures) _ (put .put-in .ensures) _ (first .largest-below .ensures)
       _ (c .before .leave-out .ensures) _ (c .largest-below2 .ensures)
 
 pub +largest-below-spec : {M : Type 1} → statement M
 +largest-below-spec = close μ λ t. lts.spec (calls t) (Starts t) reads.Post
-    (λ c κs. search needs)
-    (λ c κs. search needs)
     (λ c κs. search needs)
     (returns t)
     (λ c κs. search needs)

@@ -9,18 +9,15 @@ returns : tie.Need-returns
 unfolding vertices
 returns c =
     let l = c .before .before in
-    let r = l .before .before .before .before in
-    largest-none _ _ (r .before .before .pre) _ _ _ (r .before .below .ensures) (r .root .ensures) (l .largest-below .ensures)
-    (c .if1 .taken)
+    let all = l .before .before .before .before in
+    largest-none _ _ (all .before .pre) _ _ (all .below .ensures) (l .largest-below .ensures) (c .if1 .taken)
 
 returns-2 : tie.Need-returns-2
 unfolding vertices
 returns-2 c =
     let l = c .before .before in
-    let r = l .before .before .before .before in
-    largest-some _ _ (r .before .before .pre) _ _ _ (r .before .below .ensures) (r .root .ensures) (l .largest-below .ensures)
-    (c .if1 .left)
+    let all = l .before .before .before .before in
+    largest-some _ _ (all .before .pre) _ _ (all .below .ensures) (l .largest-below .ensures) (c .if1 .left)
 
 pub largest-sound-spec : {M : Type 1} → statement M
-largest-sound-spec =
-    tie.close (tie.spec (λ c κs. search needs) (λ c κs. search needs) (λ c κs. search needs) returns returns-2)
+largest-sound-spec = tie.close (tie.spec (λ c κs. search needs) (λ c κs. search needs) returns returns-2)

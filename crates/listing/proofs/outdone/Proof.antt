@@ -1,0 +1,17 @@
+-- `listing::outdone` meets its contract. Assumes nothing.
+use mathlib.Core.Path.{refl}
+use mathlib.Core.Bool.{false}
+use borrow.Author.Needs.{needs}
+use Rattle.vertex_set.proofs.Booleans.{clash}
+use Rattle.listing.proofs.NodeBounds.{outdone-have}
+use Rattle.listing.proofs.outdone.Statement.{statement}
+use Rattle.listing.proofs.outdone.Tie as tie
+
+returns-2 : tie.Need-returns-2
+returns-2 c e n so =
+    let have = c .before .before .size in
+    outdone-have _ _ _ _ (have .result) (have .ensures) (c .before .if1 .left) (c .colours-within .ensures e n so)
+
+pub outdone-spec : {M : Type 1} → statement M
+outdone-spec =
+    tie.close (tie.spec (λ c κs. search needs) (λ c e. clash false e refl) (λ c κs. search needs) returns-2)

@@ -1,0 +1,28 @@
+-- The largest group so far, and what the search for the largest promises of a node, over the tables of a sound graph. Assumes nothing.
+use Prim.Native.Nat.{ℕ}
+use mathlib.Core.Path.{_≡_}
+use mathlib.Core.Bool.{true, false}
+use mathlib.Core.List.{List, [], _∷_}
+use lib.Dec.{ltb}
+use Rattle.listing.specs.declared.Bookmark.the-variants.{Start}
+use Rattle.listing.specs.declared.Best.{Best}
+use Rattle.listing.specs.declared.Node.{Node}
+use Rattle.listing.specs.Listing.{Item}
+use Rattle.listing.specs.Largest.{sizeOf}
+use Rattle.listing.specs.Search.{InSound, dueBelow}
+
+-- the larger of the largest group so far and another; the one so far where they have as many vertices
+abbrev pub bestItem : Item → Best
+bestItem x = record { size = sizeOf x; left = x .left; right = x .right }
+
+abbrev pub better : Best → Item → Best
+better b x = elim (ltb (b .size) (sizeOf x)) [ true ↦ bestItem x | false ↦ b ]
+
+-- the largest of the largest group so far and those of a list
+unfoldable pub bestOf : Best → List Item → Best
+bestOf b [] = b
+bestOf b (x ∷ l) = bestOf (better b x) l
+
+-- of the largest group so far and those below the node, the largest
+abbrev pub Finds : List ℕ → List ℕ → ℕ → Node → Best → Best → Type 0
+Finds positive negative k d b r = InSound positive negative d (λ g. r ≡ bestOf b (dueBelow g k Start d))
