@@ -1,9 +1,10 @@
-.PHONY: run lib example trials soak test
+.PHONY: run lib example trials soak bench bench-check test
 
 LIB = target/staticlib/libmastpickle.a
 GROUPS = target/bin/groups
 SOURCES = crates.txt $(shell find crates -name '*.rt' -o -name '*.antt')
 TRIALS = cargo run --quiet --release --offline --locked --manifest-path trials/Cargo.toml --target-dir target/trials --
+BENCH = cargo run --quiet --release --offline --locked --manifest-path bench/Cargo.toml --target-dir target/bench --
 
 # How long the soak runs, and where its random numbers begin.
 SECONDS = 600
@@ -25,6 +26,12 @@ trials: $(LIB) $(GROUPS)
 
 soak: $(LIB) $(GROUPS)
 	$(TRIALS) --seed $(SEED) --soak $(SECONDS)
+
+bench: $(LIB)
+	$(BENCH)
+
+bench-check: $(LIB)
+	$(BENCH) --check
 
 test:
 	./.ci/run

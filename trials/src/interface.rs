@@ -3,7 +3,7 @@
 //! A wrapper takes the contents of each array as they are before the call, checks after it that no guard and no array
 //! given for reading changed, and hands back the contents of those that the call may write.
 
-mod c;
+pub mod c;
 mod lent;
 
 use crate::generate::Rng;

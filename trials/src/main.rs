@@ -1,13 +1,6 @@
 //! Runs the library against a second implementation, over generated cases.
 
-mod generate;
-mod interface;
-mod options;
-mod reference;
-mod run;
-mod trials;
-mod worked;
-
+use mastpickle_trials::{options, run, worked};
 use std::process::ExitCode;
 
 fn main() -> ExitCode {

@@ -113,7 +113,8 @@ fn random_graph(rng: &mut Rng, most: u64) -> SignedGraph {
     with_density(rng, n, density, negative)
 }
 
-fn with_density(rng: &mut Rng, n: u64, density: u64, negative: u64) -> SignedGraph {
+/// A graph of n vertices with edges at random, of a density and a share of negative edges in percent.
+pub fn with_density(rng: &mut Rng, n: u64, density: u64, negative: u64) -> SignedGraph {
     let mut graph = SignedGraph::new(n);
     for u in 0..n {
         for v in u + 1..n {
@@ -127,7 +128,7 @@ fn with_density(rng: &mut Rng, n: u64, density: u64, negative: u64) -> SignedGra
 }
 
 /// The graph of n vertices whose edges join every two members of a set, balanced with the members in `side` on one side.
-fn balanced_on(n: u64, set: u64, side: u64) -> SignedGraph {
+pub fn balanced_on(n: u64, set: u64, side: u64) -> SignedGraph {
     let mut graph = SignedGraph::new(n);
     for u in 0..n {
         for v in u + 1..n {
@@ -231,7 +232,7 @@ fn parts(rng: &mut Rng) -> SignedGraph {
 }
 
 /// The balanced graph of n vertices in parts of so many, with no edge inside a part and all edges between them.
-fn in_parts(n: u64, part: u64, side: u64) -> SignedGraph {
+pub fn in_parts(n: u64, part: u64, side: u64) -> SignedGraph {
     let mut graph = balanced_on(n, u64::MAX, side);
     for u in 0..n {
         for v in u + 1..n {

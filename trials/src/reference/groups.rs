@@ -95,7 +95,7 @@ pub fn groups_by_cover(graph: &SignedGraph) -> Vec<(u64, u64)> {
 }
 
 /// Two sides, the one that holds the lowest vertex first.
-fn left_first(one: u64, other: u64) -> (u64, u64) {
+pub fn left_first(one: u64, other: u64) -> (u64, u64) {
     let lowest = (one | other).trailing_zeros();
     if holds(one, u64::from(lowest)) {
         (one, other)

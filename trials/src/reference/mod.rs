@@ -10,8 +10,10 @@ mod reduce;
 
 pub use classify::{classify, Verdict};
 pub use edge_list::{decode, encode};
-pub use graph::{check, SignedGraph};
-pub use groups::{groups, groups_by_cover, groups_by_subsets, meets, split};
-pub use pages::{comes_before, largest, list_page, page_of, record_at, Bookmark, Page};
+pub use graph::{check, vertices, SignedGraph};
+pub use groups::{groups, groups_by_cover, groups_by_subsets, left_first, meets, split};
+pub use pages::{
+    comes_before, largest, list_page, listing_order, page_of, record_at, Bookmark, Page,
+};
 pub use program::program;
 pub use reduce::{fits, reduce};

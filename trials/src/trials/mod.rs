@@ -15,6 +15,7 @@ mod with_lists;
 mod with_pages;
 mod worked;
 
+pub use expect::words;
 pub use tally::{panicked, Tally};
 
 /// A trial: its name, how many cases it has by default, and what runs it from a seed.

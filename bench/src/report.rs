@@ -1,0 +1,233 @@
+//! The report of a run, in Markdown.
+
+use crate::bars;
+use crate::measure::{Case, THRESHOLDS};
+use crate::results::{
+    by_pages, of_cliquer, of_mbcenum, of_mbcsear, over_igraph, slowest_page, Results,
+};
+use crate::table::{milliseconds, or_missing, ratio, Table};
+use std::process::Command;
+
+/// The whole report.
+pub fn text(results: &Results) -> String {
+    let sections = [
+        ("Bars", BARS, bars::table(results)),
+        ("Listing, k = 0", LISTING, listing(results)),
+        ("Largest, k = 0", LARGEST, largest(results)),
+        ("Pages of 64 records, k = 0", PAGES, pages(results)),
+        ("Other thresholds", OTHERS, thresholds(results)),
+        ("Traps", TRAPS, traps(results)),
+    ];
+    let mut text = format!("# Benchmark\n\n{INTRODUCTION}\n\n{}\n", machine());
+    for (title, words, table) in sections {
+        text += &format!("\n## {title}\n\n{words}\n\n{}", table.text());
+    }
+    text
+}
+
+const INTRODUCTION: &str = "\
+`make bench` writes this file. Times are CPU time of the thread, the best of several batches of calls of 2 milliseconds or
+more; graphs of the peers are built beforehand. What the library and the peers find was compared in the same run.
+
+Graphs have 64 vertices, three of each family. Uniform: edges of a density, signs at random. Two sides: hidden sides of 32,
+edges of a density, one in twenty of them with the wrong sign. Positive: edges of a density. Moon-Moser: twelve triples with
+no edge inside and all positive edges between them, and 28 vertices with no edge.";
+
+const BARS: &str = "Means are geometric, over the graphs of a family and over families, for k = 0.";
+
+const LISTING: &str = "\
+Milliseconds. The library lists in order, in one call; MBCEnum* and igraph in no order. igraph works on the signed double
+cover and only counts maximal cliques or hands each over; the ratio is to the faster way.";
+
+const LARGEST: &str = "\
+Milliseconds. cliquer works on the signed double cover.";
+
+const PAGES: &str = "\
+The whole listing by pages as a ratio to one call, and the slowest page in milliseconds, after any bookmark along the
+listing, after random sets, beginnings of groups and single vertices.";
+
+const OTHERS: &str = "\
+Geometric means over the graphs of a family, in milliseconds; groups are those of the first graph.";
+
+const TRAPS: &str = "\
+Each call runs in a process of its own, which is ended at the limit.";
+
+/// Where and when the run was.
+fn machine() -> String {
+    let processors = std::fs::read_to_string("/proc/cpuinfo").unwrap_or_default();
+    let model = processors
+        .lines()
+        .find(|line| line.starts_with("model name"))
+        .and_then(|line| line.split(':').nth(1))
+        .map_or("unknown processor", str::trim);
+    let cores = std::thread::available_parallelism().map_or(0, |cores| cores.get());
+    let set = if cfg!(target_feature = "popcnt") {
+        "with the instructions of this processor"
+    } else {
+        "for every x86-64 processor, as the library is"
+    };
+    let compiler = env!("COMPILER");
+    let igraph = match env!("IGRAPH") {
+        "" => "of an unknown version, or none",
+        version => version,
+    };
+    [
+        format!("- {}", today()),
+        format!("- {model}, {cores} cores"),
+        format!("- {compiler}; the peers in Rust are built {set}"),
+        format!("- igraph {igraph}"),
+    ]
+    .join("\n")
+}
+
+fn today() -> String {
+    let told = Command::new("date").args(["-u", "+%Y-%m-%d"]).output();
+    let told = told.map(|told| told.stdout).unwrap_or_default();
+    String::from_utf8_lossy(&told).trim().to_string()
+}
+
+/// A row for each graph for threshold 0, and one for the mean of each family.
+fn by_graph<const N: usize>(
+    results: &Results,
+    table: &mut Table,
+    row: impl Fn(&Case) -> [String; N],
+    means: [Option<fn(&Case) -> Option<f64>>; N],
+) {
+    for family in &results.families {
+        for (i, case) in family.at(0).enumerate() {
+            table.row_of(&format!("{} ({})", family.name, i + 1), row(case));
+        }
+        let cells = means.map(|of| match of {
+            Some(of) => or_missing(family.mean(of), ratio),
+            None => String::new(),
+        });
+        table.row_of(&format!("{}, mean", family.name), cells);
+    }
+}
+
+fn listing(results: &Results) -> Table {
+    let mut table = Table::new(&[
+        "Graph",
+        "Groups",
+        "Library",
+        "MBCEnum*",
+        "igraph, counting",
+        "igraph, handing over",
+        "library / MBCEnum*",
+        "igraph / library",
+    ]);
+    let row = |case: &Case| {
+        [
+            case.groups.to_string(),
+            milliseconds(case.list),
+            milliseconds(case.mbcenum),
+            or_missing(case.igraph.map(|igraph| igraph.count), milliseconds),
+            or_missing(case.igraph.map(|igraph| igraph.callback), milliseconds),
+            ratio(case.list / case.mbcenum),
+            or_missing(over_igraph(case), ratio),
+        ]
+    };
+    let means = [
+        None,
+        None,
+        None,
+        None,
+        None,
+        Some(of_mbcenum as _),
+        Some(over_igraph as _),
+    ];
+    by_graph(results, &mut table, row, means);
+    table
+}
+
+fn largest(results: &Results) -> Table {
+    let mut table = Table::new(&[
+        "Graph",
+        "Vertices",
+        "Library",
+        "MBCSear-SSP*",
+        "cliquer",
+        "library / MBCSear-SSP*",
+        "library / cliquer",
+    ]);
+    let row = |case: &Case| {
+        [
+            case.size.to_string(),
+            milliseconds(case.largest),
+            milliseconds(case.mbcsear),
+            or_missing(case.cliquer, milliseconds),
+            ratio(case.largest / case.mbcsear),
+            or_missing(of_cliquer(case), ratio),
+        ]
+    };
+    let means = [
+        None,
+        None,
+        None,
+        None,
+        Some(of_mbcsear as _),
+        Some(of_cliquer as _),
+    ];
+    by_graph(results, &mut table, row, means);
+    table
+}
+
+fn pages(results: &Results) -> Table {
+    let mut table = Table::new(&["Family", "by pages / one call", "Slowest page"]);
+    for family in &results.families {
+        let slowest = family.at(0).filter_map(slowest_page).fold(0.0, f64::max);
+        table.row([
+            family.name.to_string(),
+            or_missing(family.mean(by_pages), ratio),
+            milliseconds(slowest),
+        ]);
+    }
+    table
+}
+
+fn thresholds(results: &Results) -> Table {
+    let mut table = Table::new(&[
+        "Family",
+        "k",
+        "Groups",
+        "Listing",
+        "MBCEnum*",
+        "library / MBCEnum*",
+        "Largest",
+        "MBCSear-SSP*",
+        "library / MBCSear-SSP*",
+    ]);
+    for family in &results.families {
+        for &k in THRESHOLDS.iter().filter(|&&k| k > 0) {
+            let mean = |of| family.mean_at(k, of);
+            table.row([
+                family.name.to_string(),
+                k.to_string(),
+                family
+                    .at(k)
+                    .next()
+                    .map_or(0, |case| case.groups)
+                    .to_string(),
+                or_missing(mean(|case| Some(case.list)), milliseconds),
+                or_missing(mean(|case| Some(case.mbcenum)), milliseconds),
+                or_missing(mean(of_mbcenum), ratio),
+                or_missing(mean(|case| Some(case.largest)), milliseconds),
+                or_missing(mean(|case| Some(case.mbcsear)), milliseconds),
+                or_missing(mean(of_mbcsear), ratio),
+            ]);
+        }
+    }
+    table
+}
+
+fn traps(results: &Results) -> Table {
+    let mut table = Table::new(&["Trap", "Call", "Milliseconds"]);
+    for trap in &results.traps {
+        let time = match &trap.seconds {
+            Ok(seconds) => milliseconds(*seconds),
+            Err(fault) => fault.clone(),
+        };
+        table.row([trap.name.clone(), trap.call.name().to_string(), time]);
+    }
+    table
+}

@@ -1,0 +1,73 @@
+//! What a whole run measured, and its means.
+
+use crate::measure::Case;
+use crate::table::mean;
+use crate::traps::Timed;
+
+/// The cases of one family: for each graph one at each threshold, the first for threshold 0.
+pub struct Measured {
+    pub name: &'static str,
+    pub graphs: Vec<Vec<Case>>,
+}
+
+pub struct Results {
+    pub families: Vec<Measured>,
+    pub traps: Vec<Timed>,
+}
+
+impl Measured {
+    /// The cases for a threshold.
+    pub fn at(&self, k: u64) -> impl Iterator<Item = &Case> {
+        self.graphs.iter().flatten().filter(move |case| case.k == k)
+    }
+
+    /// The geometric mean of a number over the graphs for threshold 0; none where a graph does not have it.
+    pub fn mean(&self, of: fn(&Case) -> Option<f64>) -> Option<f64> {
+        self.mean_at(0, of)
+    }
+
+    pub fn mean_at(&self, k: u64, of: fn(&Case) -> Option<f64>) -> Option<f64> {
+        mean(self.at(k).map(of).collect::<Option<Vec<f64>>>()?)
+    }
+}
+
+impl Results {
+    /// The mean of each family; none where one does not have it.
+    pub fn means(&self, of: fn(&Case) -> Option<f64>) -> Option<Vec<f64>> {
+        self.families.iter().map(|family| family.mean(of)).collect()
+    }
+
+    /// The cases of all graphs for threshold 0.
+    pub fn cases(&self) -> impl Iterator<Item = &Case> {
+        self.families.iter().flat_map(|family| family.at(0))
+    }
+}
+
+/// How many times as fast as igraph the listing is.
+pub fn over_igraph(case: &Case) -> Option<f64> {
+    Some(case.igraph?.best() / case.list)
+}
+
+/// How many times as long as MBCEnum* the listing takes.
+pub fn of_mbcenum(case: &Case) -> Option<f64> {
+    Some(case.list / case.mbcenum)
+}
+
+/// How many times as long as cliquer the largest call takes.
+pub fn of_cliquer(case: &Case) -> Option<f64> {
+    Some(case.largest / case.cliquer?)
+}
+
+/// How many times as long as MBCSear-SSP* the largest call takes.
+pub fn of_mbcsear(case: &Case) -> Option<f64> {
+    Some(case.largest / case.mbcsear)
+}
+
+/// How many times as long as one call the listing by pages takes.
+pub fn by_pages(case: &Case) -> Option<f64> {
+    Some(case.pages.as_ref()?.all / case.list)
+}
+
+pub fn slowest_page(case: &Case) -> Option<f64> {
+    Some(case.pages.as_ref()?.slowest)
+}

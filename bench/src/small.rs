@@ -1,0 +1,67 @@
+//! Holding the peers to the reference on small graphs, so that a peer's time is that of a right answer.
+
+use crate::measure::in_listing_order;
+use crate::peers::cliquer::Cliquer;
+use crate::peers::igraph::Igraph;
+use crate::peers::{mbcenum, mbcsear};
+use crate::verdict::Verdict;
+use mastpickle_trials::generate::{small_graph, Rng};
+use mastpickle_trials::reference::{groups, split, SignedGraph};
+
+const GRAPHS: u64 = 1500;
+
+/// The highest threshold; most graphs have no group for more.
+const MOST: u64 = 4;
+
+pub fn compare(verdict: &mut Verdict) {
+    let all = (0..GRAPHS).try_for_each(|i| {
+        let graph = small_graph(&mut Rng::of_case(2, i));
+        (0..=MOST)
+            .try_for_each(|k| searches(&graph, k).map_err(|peer| (i, k, peer)))
+            .and_then(|()| in_c(&graph).map_err(|peer| (i, 0, peer)))
+    });
+    let all = all.map_err(|(i, k, peer)| format!("{peer} differs on graph {i}, k = {k}"));
+    verdict.take("small graphs", &all);
+}
+
+/// The name of the search in Rust that differs from the reference.
+fn searches(graph: &SignedGraph, k: u64) -> Result<(), &'static str> {
+    let expected = groups(graph, k);
+    let mut found = Vec::new();
+    mbcenum::groups(graph, k, &mut found);
+    in_listing_order(&mut found);
+    if found != expected {
+        return Err("MBCEnum*");
+    }
+    let (one, other) = mbcsear::largest(graph, k);
+    let sides = split(graph, one | other);
+    let valid = sides == Some((one, other)) || sides == Some((other, one));
+    if valid && (one | other).count_ones() == most(&expected) {
+        Ok(())
+    } else {
+        Err("MBCSear-SSP*")
+    }
+}
+
+/// The name of the peer in C that differs from the reference for threshold 0.
+fn in_c(graph: &SignedGraph) -> Result<(), &'static str> {
+    if graph.n == 0 {
+        return Ok(());
+    }
+    let expected = groups(graph, 0);
+    let count = expected.len() as u64;
+    let igraph = Igraph::new(graph).is_none_or(|igraph| {
+        igraph.count() == count && igraph.by_smaller_side().iter().sum::<u64>() == count
+    });
+    if !igraph {
+        return Err("igraph");
+    }
+    let cliquer = Cliquer::new(graph).is_none_or(|cliquer| cliquer.largest() == most(&expected));
+    cliquer.then_some(()).ok_or("cliquer")
+}
+
+/// The size of the largest group, 0 where there is none.
+fn most(groups: &[(u64, u64)]) -> u32 {
+    let sizes = groups.iter().map(|sides| (sides.0 | sides.1).count_ones());
+    sizes.max().unwrap_or(0)
+}
