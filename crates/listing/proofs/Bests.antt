@@ -10,8 +10,9 @@ use lib.Dec.{leb, ltb}
 use lib.ListN.{getD}
 use borrow.Author.Tests.{ltb-true, ltb-false, lt-ltb, le-ltb, not-true}
 use Rattle.vertex_set.specs.Lists.{All}
-use Rattle.vertex_set.specs.Sets.{size, lowest}
+use Rattle.vertex_set.specs.Sets.{mem, Subset, size, lowest}
 use Rattle.vertex_set.proofs.Lists.{mem-all}
+use Rattle.vertex_set.proofs.Membership.{union-cases}
 use Rattle.vertex_set.proofs.Sizes.{size-none}
 use Rattle.signed_graph.specs.declared.SignedGraph.{SignedGraph}
 use Rattle.signed_graph.specs.Graphs.{vertices}
@@ -29,7 +30,7 @@ use Rattle.listing.specs.Calls.{dueGroups}
 use Rattle.listing.specs.Largest.{sizeOf, larger, largestOf, answerTo, largestBy, largestGroup, numberOf, largestNumberBy, largestNumber}
 use Rattle.listing.specs.Nodes.{chosen, undecided, rootOf, putIn, leaveOut, withVertex, Valid, Same, short, leafItem, groupAt}
 use Rattle.listing.specs.Search.{graphOf, dueBelow, leafItems}
-use Rattle.listing.specs.Bounds.{ForSound, Outdone}
+use Rattle.listing.specs.Bounds.{ForSound, Tabled, Outdone}
 use Rattle.listing.specs.Bests.{bestItem, better, bestOf, Finds}
 use Rattle.listing.proofs.Listing.{listing-sorted, listing-exact}
 use Rattle.listing.proofs.LargestOf.{largest-found}
@@ -103,35 +104,41 @@ module _ (k : ℕ) (d : Node) (b : Best) where
 
 -- ---- a node
 
+undecided-usable : {g : SignedGraph} (d : Node) → Valid g d → Subset (undecided d) (vertices g)
+undecided-usable {g} d va p m =
+    union-cases (mem p (vertices g) ≡ true) p (d .left .candidates) (d .right .candidates) m
+    (λ x. va .left .candidate p x .usable) (λ x. va .right .candidate p x .usable)
+
 same-refl : {g : SignedGraph} {k : ℕ} {d : Node} → Valid g d → Same g k d d
 same-refl va = record { valid = va; to = λ x _ b. b; from = λ x _ b. b }
 
-module _ (positive negative : List ℕ) (k : ℕ) (d : Node) (b : Best) where
+module _ (table positive negative : List ℕ) (k : ℕ) (d : Node) (b : Best) where
   -- no group below has more vertices than the largest so far
-  pub finds-none : ForSound positive negative (λ g. Outdone g (chosen d) (d .left .candidates) (d .right .candidates) (b .size))
-      → Finds positive negative k d b b
-  finds-none h n so va =
+  pub finds-none : ForSound positive negative (λ g.
+      Tabled g table (undecided d) → Outdone g (chosen d) (d .left .candidates) (d .right .candidates) (b .size))
+      → Finds table positive negative k d b b
+  finds-none h n so va bounds =
       let g = graphOf n positive negative in
       sym (best-stays b (dueBelow g k Start d) (mem-all (λ x. sizeOf x ≤ b .size) (dueBelow g k Start d) (λ x i.
       let r = of-below d (dueGroups g k Start) x i in
-      outdone-below d (b .size) (h n so) (due-listed g (to-sound g so) k Start x (r .0)) (r .1))))
+      outdone-below d (b .size) (h n so (λ v m. bounds v (undecided-usable d va v m))) (due-listed g (to-sound g so) k Start x (r .0)) (r .1))))
 
-  pub finds-short : short k d ≡ true → Finds positive negative k d b b
+  pub finds-short : short k d ≡ true → Finds table positive negative k d b b
   unfolding bestOf short
-  finds-short e n so va =
+  finds-short e n so va _ =
       sym (ap (bestOf b) (none-due _ (to-sound _ so) k Start d (short-barren _ (to-sound _ so) k d (not-true _ e))))
 
   pub finds-leaf : (after : Best) (u : ℕ) → u ≡ undecided d → u ≡ 0 → after ≡ bestOf b (leafItems k Start d)
-      → Finds positive negative k d b after
-  finds-leaf after u is-u done is n so va =
+      → Finds table positive negative k d b after
+  finds-leaf after u is-u done is n so va _ =
       is ∙ ap (bestOf b) (sym (leaf-due _ (to-sound _ so) k Start (same-refl va) (sym is-u ∙ done)))
 
   pub finds-both : (u v : ℕ) → u ≡ undecided d → (u ≡ 0 → ⊥) → v ≡ lowest u
       → (in-child : Node) → in-child ≡ putIn d v (getD positive v 0) (getD negative v 0)
-      → (first : Best) → Finds positive negative k in-child b first
+      → (first : Best) → Finds table positive negative k in-child b first
       → (out-child : Node) → out-child ≡ leaveOut d v
-      → (after : Best) → Finds positive negative k out-child first after → Finds positive negative k d b after
-  finds-both u v is-u some-u is-v in-child in-is first one out-child out-is after two n so va =
+      → (after : Best) → Finds table positive negative k out-child first after → Finds table positive negative k d b after
+  finds-both u v is-u some-u is-v in-child in-is first one out-child out-is after two n so va bounds =
       let g = graphOf n positive negative in
       let gs = to-sound g so in
       let s : Same g k d d = same-refl va in
@@ -140,9 +147,9 @@ module _ (positive negative : List ℕ) (k : ℕ) (d : Node) (b : Best) where
       let A = dueBelow g k Start (withVertex g d v) in
       let B = dueBelow g k Start (leaveOut d v) in
       let first-is : first ≡ bestOf b A =
-      subst (λ (x : Node). Finds positive negative k x b first) in-is one n so (step-in g gs k Start s v is pos) in
+      subst (λ (x : Node). Finds table positive negative k x b first) in-is one n so (step-in g gs k Start s v is pos) bounds in
       let after-is : after ≡ bestOf first B =
-      subst (λ (x : Node). Finds positive negative k x first after) out-is two n so (step-out g gs k Start s v is pos) in
+      subst (λ (x : Node). Finds table positive negative k x first after) out-is two n so (step-out g gs k Start s v is pos) bounds in
       after-is ∙ ap (λ (x : Best). bestOf x B) first-is ∙ sym (best-append b A B)
       ∙ ap (bestOf b) (sym (step-due g gs k Start s v is pos))
 
@@ -163,13 +170,13 @@ module _ (g : SignedGraph) (k : ℕ) (so : sound g ≡ true) where
       go (yes z) fits pos = absurd (let n : y .vertices ≡ 0 = size-none (y .vertices) fits z in omega arith)
       go (no z) fits pos = omega arith
 
-  module _ (all : ℕ) (best : Best) (is-all : all ≡ vertices g)
-      (went : Finds (g .positive) (g .negative) k (rootOf all) nothing best) where
+  module _ (all : ℕ) (table : List ℕ) (best : Best) (is-all : all ≡ vertices g) (bounds : sound g ≡ true → Tabled g table (vertices g))
+      (went : Finds table (g .positive) (g .negative) k (rootOf all) nothing best) where
     best-is : best ≡ against nothing (largestOf (listing g k))
     unfolding due
     best-is =
-        subst (λ (x : ℕ). Finds (g .positive) (g .negative) k (rootOf x) nothing best) is-all went
-        (g .n) so (root-valid g)
+        subst (λ (x : ℕ). Finds table (g .positive) (g .negative) k (rootOf x) nothing best) is-all went
+        (g .n) so (root-valid g) (bounds so)
         ∙ ap (bestOf nothing) (all-due g (to-sound g so) k Start) ∙ best-largest nothing (listing g k)
 
     some-best : (y : Item) → largestOf (listing g k) ≡ some y → best ≡ bestItem y

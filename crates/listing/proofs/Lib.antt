@@ -10,6 +10,8 @@ pub mod Nodes
 pub mod Falling
 pub mod SizeBounds
 pub mod Colours
+pub mod Branches
+pub mod SizeTables
 pub mod Below
 pub mod Prunes
 pub mod Settling

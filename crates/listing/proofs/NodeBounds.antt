@@ -15,18 +15,9 @@ use Rattle.listing.specs.Nodes.{chosen, Parts, Below}
 use Rattle.listing.specs.Bounds.{AtMost, Outdone}
 use Rattle.listing.proofs.Listing.{listed-left, listed-right, listed-cases}
 use Rattle.listing.proofs.SizeBounds.{size-cover}
+use Rattle.listing.proofs.Branches.{parts-within}
 
--- ---- parts of a balanced set
-
-parts-within : {g : SignedGraph} {l r : ℕ} → Parts g l r → (a b : ℕ) → Subset a l → Subset b r → Parts g a b
-parts-within h a b in-l in-r =
-    record {
-      usable-l = λ p m. h .usable-l p (in-l p m);
-      usable-r = λ p m. h .usable-r p (in-r p m);
-      inside-l = λ p q ne x y. h .inside-l p q ne (in-l p x) (in-l q y);
-      inside-r = λ p q ne x y. h .inside-r p q ne (in-r p x) (in-r q y);
-      across = λ p q x y. h .across p q (in-l p x) (in-r q y);
-    }
+-- ---- a group is a balanced set
 
 listed-parts : {g : SignedGraph} {k : ℕ} {x : Item} → Listed g k x → Parts g (x .left) (x .right)
 listed-parts lx =

@@ -135,7 +135,7 @@ module _ (g : SignedGraph) (so : Sound g) where
 
   -- ---- the sides stay those of a balanced set
 
-  parts-flip : (l r : ℕ) → Parts g l r → Parts g r l
+  pub parts-flip : (l r : ℕ) → Parts g l r → Parts g r l
   parts-flip l r h =
       record {
         usable-l = h .usable-r;

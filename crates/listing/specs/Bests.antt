@@ -4,12 +4,14 @@ use mathlib.Core.Path.{_≡_}
 use mathlib.Core.Bool.{true, false}
 use mathlib.Core.List.{List, [], _∷_}
 use lib.Dec.{ltb}
+use Rattle.signed_graph.specs.Graphs.{vertices}
 use Rattle.listing.specs.declared.Bookmark.the-variants.{Start}
 use Rattle.listing.specs.declared.Best.{Best}
 use Rattle.listing.specs.declared.Node.{Node}
 use Rattle.listing.specs.Listing.{Item}
 use Rattle.listing.specs.Largest.{sizeOf}
 use Rattle.listing.specs.Search.{InSound, dueBelow}
+use Rattle.listing.specs.Bounds.{Tabled}
 
 -- the larger of the largest group so far and another; the one so far where they have as many vertices
 abbrev pub bestItem : Item → Best
@@ -23,6 +25,7 @@ unfoldable pub bestOf : Best → List Item → Best
 bestOf b [] = b
 bestOf b (x ∷ l) = bestOf (better b x) l
 
--- of the largest group so far and those below the node, the largest
-abbrev pub Finds : List ℕ → List ℕ → ℕ → Node → Best → Best → Type 0
-Finds positive negative k d b r = InSound positive negative d (λ g. r ≡ bestOf b (dueBelow g k Start d))
+-- of the largest group so far and those below the node, the largest; where the table has bounds for the vertices of the graph
+abbrev pub Finds : List ℕ → List ℕ → List ℕ → ℕ → Node → Best → Best → Type 0
+Finds table positive negative k d b r =
+    InSound positive negative d (λ g. Tabled g table (vertices g) → r ≡ bestOf b (dueBelow g k Start d))

@@ -1,15 +1,17 @@
 -- Bounds on the size of the balanced sets that keep their sides within given vertices. Assumes nothing.
-use Prim.Native.Nat.{ℕ, _+_, _-_, _≤_}
+use Prim.Native.Nat.{ℕ, _+_, _-_, _^_, _≤_, _<_}
 use mathlib.Core.Path.{_≡_}
 use mathlib.Core.Logic.{_≢_}
-use mathlib.Core.Bool.{true, false, _&&_}
+use mathlib.Core.Bool.{Bool, true, false, _&&_}
 use mathlib.Core.List.{List}
 use lib.ListN.{getD}
+use lib.Bits.{bitOr}
 use Rattle.vertex_set.specs.Sets.{mem, Subset, size}
 use Rattle.signed_graph.specs.declared.SignedGraph.{SignedGraph}
 use Rattle.signed_graph.specs.Soundness.{sound}
+use Rattle.listing.specs.declared.Side.{Side}
 use Rattle.listing.specs.declared.bounds.Places.{Places}
-use Rattle.listing.specs.Nodes.{Parts}
+use Rattle.listing.specs.Nodes.{Parts, Between}
 use Rattle.listing.specs.Search.{graphOf}
 
 -- what holds of every sound graph with these tables
@@ -42,8 +44,38 @@ pub record ColourClass (positive negative : List ℕ) (r : Places) : Type 0 wher
   pub inside-r : Independent positive (r .right)
   pub across : Unjoined negative (r .left) (r .right)
 
+-- ---- tables of bounds
+
+-- every balanced set among the vertices from v up has at most m vertices; a table has such an m for each vertex of s
+abbrev pub AtMostFrom : SignedGraph → ℕ → ℕ → Type 0
+AtMostFrom g v m =
+    (l r : ℕ) → Parts g l r → ((p : ℕ) → mem p l ≡ true → v ≤ p) → ((p : ℕ) → mem p r ≡ true → v ≤ p) → size l + size r ≤ m
+
+abbrev pub Tabled : SignedGraph → List ℕ → ℕ → Type 0
+Tabled g table s = (v : ℕ) → mem v s ≡ true → AtMostFrom g v (getD table v 0)
+
+-- in every sound graph for which the table holds such bounds
+abbrev pub AtMostBy : List ℕ → List ℕ → List ℕ → ℕ → ℕ → ℕ → Type 0
+AtMostBy table positive negative left right m =
+    ForSound positive negative (λ g. Tabled g table (bitOr left right) → AtMost g left right m)
+
+-- `above` has the vertices from v up, with bounds in the table, and at most m of them are in a balanced set
+pub record TabledFrom (g : SignedGraph) (table : List ℕ) (v above m : ℕ) : Type 0 where
+  pub has : (p : ℕ) → v ≤ p → p < g .n → mem p above ≡ true
+  pub tabled : Tabled g table above
+  pub most : AtMostFrom g v m
+
+-- all vertices, or none
+abbrev pub allIf : Bool → ℕ
+allIf true = 2 ^ 64 - 1
+allIf false = 0
+
 -- ---- what is below a node
 
 -- these vertices and a balanced set with its sides within left and right are at most m
 abbrev pub Outdone : SignedGraph → ℕ → ℕ → ℕ → ℕ → Type 0
 Outdone g chosen left right m = (size chosen ≤ m) × AtMost g left right (m - size chosen)
+
+-- a side of a balanced set that is between what this one has and may get has fewer than k vertices
+abbrev pub Lacks : SignedGraph → ℕ → Side → Type 0
+Lacks g k side = (l r : ℕ) → Parts g l r → Between side l → size l < k

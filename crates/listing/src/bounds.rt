@@ -1,12 +1,26 @@
 // Bounds on the size of the balanced sets that keep their sides within given vertices.
 ghost use mathlib.Core.Path.{_≡_};
 ghost use mathlib.Core.Bool.{true};
-ghost use Rattle.listing.specs.Bounds.{ForSound, AtMost, Picked, ColourClass};
+ghost use Prim.Native.Nat.{_+_, _≤_, _<_};
+ghost use Rattle.vertex_set.specs.Sets.{mem};
+ghost use Rattle.signed_graph.specs.Graphs.{vertices};
+ghost use Rattle.signed_graph.specs.Soundness.{sound};
+ghost use Rattle.listing.specs.Search.{graphOf};
+ghost use Rattle.listing.specs.Bounds.{ForSound, AtMost, Picked, ColourClass, AtMostBy, allIf, AtMostFrom, Tabled, TabledFrom};
+
+// How many times the search for a bound may branch: for an entry of the table.
+const TABLE_FUEL: u64 = 64;
 
 // Vertices for the left and for the right.
 pub struct Places {
     left: u64,
     right: u64,
+}
+
+// Whether a bound was seen to hold, and the fuel that is left.
+pub struct Bounded {
+    pub holds: bool,
+    pub fuel: u64,
 }
 
 // Some vertices of `near`, no two joined by a positive edge; and those of `far` joined to none of them by a negative edge.
@@ -69,4 +83,127 @@ pub fn colours_within<'a>(
         colours += 1;
     }
     true
+}
+
+// All vertices where v is in s, else none.
+fn all_if_in(s: u64, v: usize) -> u64
+    ensures { λ r. ⌜ r ≡ allIf (mem v s) ⌝ }
+{
+    if vertex_set::contains(s, v) { !0 } else { 0 }
+}
+
+// True only where no balanced set with its sides within these has more than `room` vertices: seen by the table at the lowest
+// vertex, by colours, or by trying that vertex on the left, on the right and nowhere, as long as the fuel lasts.
+pub fn at_most<'a>(
+    left: u64,
+    right: u64,
+    room: u64,
+    table: &'a [u64; 64],
+    positive: &'a [u64; 64],
+    negative: &'a [u64; 64],
+    fuel: u64,
+) -> Bounded
+    ensures { λ r. ⌜ (r .holds ≡ true
+        → AtMostBy (now (table .entry)) (now (positive .entry)) (now (negative .entry)) left right room) ⌝ }
+{
+    let open = left | right;
+    if open == 0 {
+        return Bounded { holds: true, fuel };
+    }
+    let v = vertex_set::lowest(open);
+    if table[v] <= room {
+        return Bounded { holds: true, fuel };
+    }
+    if colours_within(left, right, room, positive, negative) {
+        return Bounded { holds: true, fuel };
+    }
+    if fuel == 0 {
+        return Bounded { holds: false, fuel };
+    }
+    if room == 0 {
+        return Bounded { holds: false, fuel };
+    }
+    let others = !vertex_set::single(v);
+    let same = positive[v] & others;
+    let cross = negative[v] & others;
+    let here = all_if_in(left, v);
+    let there = all_if_in(right, v);
+    let on_left = at_most(
+        left & same & here,
+        right & cross & here,
+        room - 1,
+        table,
+        positive,
+        negative,
+        fuel - 1,
+    );
+    if !on_left.holds {
+        return on_left;
+    }
+    let on_right = at_most(
+        left & cross & there,
+        right & same & there,
+        room - 1,
+        table,
+        positive,
+        negative,
+        on_left.fuel,
+    );
+    if !on_right.holds {
+        return on_right;
+    }
+    at_most(
+        left & others,
+        right & others,
+        room,
+        table,
+        positive,
+        negative,
+        on_right.fuel,
+    )
+}
+
+// A bound on the balanced sets among v and the vertices above it, `most` being one for those above, which are in the table.
+fn bound_from<'a>(
+    v: usize,
+    above: u64,
+    most: u64,
+    table: &'a [u64; 64],
+    positive: &'a [u64; 64],
+    negative: &'a [u64; 64],
+) -> u64
+    requires { ⌜ (v < 64) × (most < 64) ⌝ }
+    ensures { λ r. ⌜ r ≤ most + 1 ⌝ }
+    ensures { λ r. ⌜ ForSound (now (positive .entry)) (now (negative .entry)) (λ g.
+        TabledFrom g (now (table .entry)) (v + 1) above most → AtMostFrom g v r) ⌝ }
+{
+    if most == 0 {
+        return 1;
+    }
+    let same = positive[v] & above;
+    let cross = negative[v] & above;
+    let found = at_most(same, cross, most - 1, table, positive, negative, TABLE_FUEL);
+    if found.holds {
+        return most;
+    }
+    most + 1
+}
+
+// For each vertex of a graph of n, a bound on the balanced sets among the vertices from it up.
+pub fn size_table<'a>(n: u64, positive: &'a [u64; 64], negative: &'a [u64; 64]) -> [u64; 64]
+    requires { ⌜ n ≤ 64 ⌝ }
+    ensures { λ r. ⌜ (sound (graphOf n (now (positive .entry)) (now (negative .entry))) ≡ true
+        → Tabled (graphOf n (now (positive .entry)) (now (negative .entry))) r (vertices (graphOf n (now (positive .entry)) (now (negative .entry))))) ⌝ }
+{
+    let mut table = [0u64; 64];
+    let mut above: u64 = 0;
+    let mut most: u64 = 0;
+    let mut v = n as usize;
+    while 0 < v {
+        v -= 1;
+        most = bound_from(v, above, most, &table, positive, negative);
+        table[v] = most;
+        above = above | vertex_set::single(v);
+    }
+    table
 }

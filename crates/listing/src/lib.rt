@@ -25,7 +25,7 @@ ghost use Rattle.listing.specs.Filling.{Holds, Past, markAfter, endAt, p
 ghost use Rattle.listing.specs.Nodes as nodes;
 ghost use Rattle.listing.specs.Nodes.{nodeOf, narrowed, joined, passedOver, putIn, putOpen, leaveOut, short, groupAt};
 ghost use Rattle.listing.specs.Search.{Beside, otherWay, FreeSides, Conflicts, Only, Requires, HeldByAll, Settles, Advances, Fewer, FewestConflicts, Narrowest, FindsBarren, leafItems, Lists};
-ghost use Rattle.listing.specs.Bounds.{ForSound, Outdone};
+ghost use Rattle.listing.specs.Bounds.{ForSound, Tabled, Outdone};
 ghost use Rattle.listing.specs.Bests.{bestOf, Finds};
 
 // Where a page starts: at the first group, or after a set in listing order.
@@ -954,16 +954,19 @@ fn outdone<'a>(
     left: u64,
     right: u64,
     most: u64,
+    table: &'a [u64; 64],
     positive: &'a [u64; 64],
     negative: &'a [u64; 64],
 ) -> bool
-    ensures { λ r. ⌜ (r ≡ true → ForSound (now (positive .entry)) (now (negative .entry)) (λ g. Outdone g chosen left right most)) ⌝ }
+    ensures { λ r. ⌜ (r ≡ true → ForSound (now (positive .entry)) (now (negative .entry)) (λ g.
+        Tabled g (now (table .entry)) (bitOr left right) → Outdone g chosen left right most)) ⌝ }
 {
     let have = vertex_set::size(chosen);
     if most < have {
         return false;
     }
-    bounds::colours_within(left, right, most - have, positive, negative)
+    let found = bounds::at_most(left, right, most - have, table, positive, negative, 0);
+    found.holds
 }
 
 // The largest of the largest group so far and of the groups below a node, given by its sides; of equals, the first.
@@ -975,11 +978,12 @@ fn largest_below<'a>(
     right_candidates: u64,
     right_excluded: u64,
     k: u64,
+    table: &'a [u64; 64],
     positive: &'a [u64; 64],
     negative: &'a [u64; 64],
     best: Best,
 ) -> Best
-    ensures { λ r. ⌜ Finds (now (positive .entry)) (now (negative .entry)) k
+    ensures { λ r. ⌜ Finds (now (table .entry)) (now (positive .entry)) (now (negative .entry)) k
         (nodeOf left «left_candidates» «left_excluded» right «right_candidates» «right_excluded») best r ⌝ }
 {
     if outdone(
@@ -987,6 +991,7 @@ fn largest_below<'a>(
         left_candidates,
         right_candidates,
         best.size,
+        table,
         positive,
         negative,
     ) {
@@ -1021,6 +1026,7 @@ fn largest_below<'a>(
         with.right.candidates,
         with.right.excluded,
         k,
+        table,
         positive,
         negative,
         best,
@@ -1034,6 +1040,7 @@ fn largest_below<'a>(
         without.right.candidates,
         without.right.excluded,
         k,
+        table,
         positive,
         negative,
         first,
@@ -1051,7 +1058,20 @@ fn largest_sound(g: SignedGraph, k: u64) -> LargestGroup
         right: 0,
     };
     let all = vertex_set::below(g.n);
-    let best = largest_below(0, all, 0, 0, all, 0, k, &g.positive, &g.negative, none);
+    let table = bounds::size_table(g.n, &g.positive, &g.negative);
+    let best = largest_below(
+        0,
+        all,
+        0,
+        0,
+        all,
+        0,
+        k,
+        &table,
+        &g.positive,
+        &g.negative,
+        none,
+    );
     if best.size == 0 {
         return LargestGroup {
             outcome: Finding::NoGroup,

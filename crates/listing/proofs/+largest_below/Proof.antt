@@ -72,17 +72,21 @@ module _ (t : ℕ) where
       (u .result) (u .ensures) (u .ok) (c .before .if3 .left) (c .lowest .result) (c .lowest .ensures)
 
   returns : lts.Need-returns (calls t) (Starts t) reads.Post
-  returns c = finds-none _ _ _ (node (c .before .before)) _ (c .before .outdone .ensures (c .if1 .taken))
+  returns c =
+      let start = c .before .before in
+      finds-none (start .args .table .now) _ _ _ (node start) _ (c .before .outdone .ensures (c .if1 .taken))
 
   returns-2 : lts.Need-returns-2 (calls t) (Starts t) reads.Post
   returns-2 c =
       let short = c .before in
-      finds-short _ _ _ (node (short .before .before .before)) _ (sym (short .is-short .ensures) ∙ c .if2 .taken)
+      let start = short .before .before .before in
+      finds-short (start .args .table .now) _ _ _ (node start) _ (sym (short .is-short .ensures) ∙ c .if2 .taken)
 
   returns-3 : lts.Need-returns-3 (calls t) (Starts t) reads.Post
   returns-3 c =
       let u = c .before .before in
-      finds-leaf _ _ _ (node (u .before .before .before .before .before)) _ _ _ (u .undecided .ensures)
+      let start = u .before .before .before .before .before in
+      finds-leaf (start .args .table .now) _ _ _ (node start) _ _ _ (u .undecided .ensures)
       (c .before .if3 .taken) (c .largest-leaf .ensures)
 
   returns-4 : lts.Need-returns-4 (calls t) (Starts t) reads.Post
@@ -91,7 +95,8 @@ module _ (t : ℕ) where
       let put = first .before in
       let v = put .before .before .before in
       let u = v .before .before in
-      finds-both _ _ _ (node (u .before .before .before .before .before)) _ (u .undecided .result) (v .lowest .result)
+      let start = u .before .before .before .before .before in
+      finds-both (start .args .table .now) _ _ _ (node start) _ (u .undecided .result) (v .lowest .result)
       (u .undecided .ensures) (v .before .if3 .left) (v .lowest .ensures) _ (put .put-in .ensures) _ (first .largest-below .ensures)
       _ (c .before .leave-out .ensures) _ (c .largest-below2 .ensures)
 

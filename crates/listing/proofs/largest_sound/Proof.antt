@@ -1,6 +1,7 @@
 -- `listing::largest_sound` meets its contract. The search goes from the root, below which all groups are. Assumes nothing.
 use borrow.Author.Needs.{needs}
 use Rattle.signed_graph.specs.Graphs.{vertices}
+use Rattle.signed_graph.proofs.Soundness.{to-sound}
 use Rattle.listing.proofs.Bests.{largest-none, largest-some}
 use Rattle.listing.proofs.largest_sound.Statement.{statement}
 use Rattle.listing.proofs.largest_sound.Tie as tie
@@ -9,15 +10,26 @@ returns : tie.Need-returns
 unfolding vertices
 returns c =
     let l = c .before .before in
-    let all = l .before .before .before .before in
-    largest-none _ _ (all .before .pre) _ _ (all .below .ensures) (l .largest-below .ensures) (c .if1 .taken)
+    let made = l .before .before .before .before .before in
+    let all = made .before .before .before .before in
+    largest-none _ _ (all .before .pre) _ (made .size-table .result) _ (all .below .ensures) (made .size-table .ensures)
+    (l .largest-below .ensures) (c .if1 .taken)
 
 returns-2 : tie.Need-returns-2
 unfolding vertices
 returns-2 c =
     let l = c .before .before in
-    let all = l .before .before .before .before in
-    largest-some _ _ (all .before .pre) _ _ (all .below .ensures) (l .largest-below .ensures) (c .if1 .left)
+    let made = l .before .before .before .before .before in
+    let all = made .before .before .before .before in
+    largest-some _ _ (all .before .pre) _ (made .size-table .result) _ (all .below .ensures) (made .size-table .ensures)
+    (l .largest-below .ensures) (c .if1 .left)
 
 pub largest-sound-spec : {M : Type 1} → statement M
-largest-sound-spec = tie.close (tie.spec (λ c κs. search needs) (λ c κs. search needs) returns returns-2)
+largest-sound-spec =
+    tie.close
+    (tie.spec
+    (λ c κs. search needs)
+    (λ c κs. to-sound _ (c .before .before .before .before .pre) .small)
+    (λ c κs. search needs)
+    returns
+    returns-2)

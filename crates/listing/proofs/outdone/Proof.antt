@@ -8,9 +8,9 @@ use Rattle.listing.proofs.outdone.Statement.{statement}
 use Rattle.listing.proofs.outdone.Tie as tie
 
 returns-2 : tie.Need-returns-2
-returns-2 c e n so =
+returns-2 c e n so bounds =
     let have = c .before .before .size in
-    outdone-have _ _ _ _ (have .result) (have .ensures) (c .before .if1 .left) (c .colours-within .ensures e n so)
+    outdone-have _ _ _ _ (have .result) (have .ensures) (c .before .if1 .left) (c .at-most .ensures e n so bounds)
 
 pub outdone-spec : {M : Type 1} → statement M
 outdone-spec =
