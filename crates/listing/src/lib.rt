@@ -25,8 +25,11 @@ ghost use Rattle.listing.specs.Filling.{Holds, Past, markAfter, endAt, p
 ghost use Rattle.listing.specs.Nodes as nodes;
 ghost use Rattle.listing.specs.Nodes.{nodeOf, narrowed, joined, passedOver, putIn, putOpen, leaveOut, short, groupAt};
 ghost use Rattle.listing.specs.Search.{Beside, otherWay, FreeSides, Conflicts, Only, Requires, HeldByAll, Settles, Advances, Fewer, FewestConflicts, Narrowest, FindsBarren, leafItems, Lists};
-ghost use Rattle.listing.specs.Bounds.{ForSound, Tabled, Outdone};
+ghost use Rattle.listing.specs.Bounds.{ForSound, Tabled, Outdone, Lacks};
 ghost use Rattle.listing.specs.Bests.{bestOf, Finds};
+
+// How many times the search for a bound on a side may branch.
+const FUEL: u64 = 2048;
 
 // Where a page starts: at the first group, or after a set in listing order.
 pub enum Bookmark {
@@ -946,6 +949,27 @@ fn largest_leaf(at: Node, k: u64, best: Best) -> Best
         left: left.chosen,
         right: right.chosen,
     }
+}
+
+// True only where the side cannot get k vertices.
+fn lacks_side<'a>(side: Side, k: u64, positive: &'a [u64; 64], negative: &'a [u64; 64]) -> bool
+    ensures { λ r. ⌜ (r ≡ true → ForSound (now (positive .entry)) (now (negative .entry)) (λ g. Lacks g k side)) ⌝ }
+{
+    let have = vertex_set::size(side.chosen);
+    if k <= have {
+        return false;
+    }
+    let table = [128u64; 64];
+    let found = bounds::at_most(
+        side.candidates,
+        0,
+        k - have - 1,
+        &table,
+        positive,
+        negative,
+        FUEL,
+    );
+    found.holds
 }
 
 // True only where no group has more than `most` vertices that is the chosen ones and some of these for the left and the right.
