@@ -11,13 +11,14 @@ use Rattle.vertex_set.specs.Sets.{mem, Subset, size}
 use Rattle.vertex_set.proofs.Booleans.{or-left, or-right}
 use Rattle.vertex_set.proofs.Membership.{none-in, mem-or, meet-in, meet-left, meet-right, union-left, union-right, union-cases}
 use Rattle.signed_graph.specs.declared.SignedGraph.{SignedGraph}
-use Rattle.signed_graph.proofs.Soundness.{Sound}
+use Rattle.signed_graph.proofs.Soundness.{Sound, to-sound}
 use Rattle.clique.proofs.Groups.{floor-least}
 use Rattle.listing.specs.declared.Side.{Side}
 use Rattle.listing.specs.declared.Node.{Node}
 use Rattle.listing.specs.Listing.{Item, Listed}
 use Rattle.listing.specs.Largest.{sizeOf}
 use Rattle.listing.specs.Nodes.{chosen, Parts, Below, Barren}
+use Rattle.listing.specs.Search.{FindsBarren}
 use Rattle.listing.specs.Bounds.{ForSound, AtMost, Tabled, AtMostBy, Outdone, Lacks}
 use Rattle.listing.proofs.Listing.{listed-left, listed-right, listed-cases, listed-enough}
 use Rattle.listing.proofs.Nodes.{parts-flip}
@@ -133,3 +134,10 @@ module _ (g : SignedGraph) (so : Sound g) (k : ℕ) (d : Node) where
       let few : size (x .right) < k = h (x .right) (x .left) (parts-flip g so (x .left) (x .right) (listed-parts lx)) (b .right) in
       let enough = floor-least k (size (x .left)) (size (x .right)) (listed-enough g so k x lx) in
       omega arith
+
+module _ (positive negative : List ℕ) (k : ℕ) (d : Node) where
+  pub lacks-left : ForSound positive negative (λ g. Lacks g k (d .left)) → FindsBarren positive negative k d true
+  lacks-left h _ n so va = lacks-left-barren _ (to-sound _ so) k d (h n so)
+
+  pub lacks-right : ForSound positive negative (λ g. Lacks g k (d .right)) → FindsBarren positive negative k d true
+  lacks-right h _ n so va = lacks-right-barren _ (to-sound _ so) k d (h n so)

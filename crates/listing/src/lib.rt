@@ -28,9 +28,6 @@ ghost use Rattle.listing.specs.Search.{Beside, otherWay, FreeSides, Conf
 ghost use Rattle.listing.specs.Bounds.{ForSound, Tabled, Outdone, Lacks};
 ghost use Rattle.listing.specs.Bests.{bestOf, Finds};
 
-// How many times the search for a bound on a side may branch.
-const FUEL: u64 = 2048;
-
 // Where a page starts: at the first group, or after a set in listing order.
 pub enum Bookmark {
     Start,
@@ -708,10 +705,42 @@ fn lacks_group<'a>(
     lacks_group(leave_out(at, u), k, positive, negative, first.fuel)
 }
 
-// After this many nodes without a group a branch is tested before it is entered, and a test visits at most so many nodes.
+// After this many nodes without a group a branch is tested before it is entered.
 const PATIENCE: u64 = 512;
 
+// How many times a test may branch.
 const FUEL: u64 = 2048;
+
+// True only where the side cannot get k vertices.
+fn lacks_side<'a>(side: Side, k: u64, positive: &'a [u64; 64], negative: &'a [u64; 64]) -> bool
+    ensures { λ r. ⌜ (r ≡ true → ForSound (now (positive .entry)) (now (negative .entry)) (λ g. Lacks g k side)) ⌝ }
+{
+    let have = vertex_set::size(side.chosen);
+    if k <= have {
+        return false;
+    }
+    let table = [128u64; 64];
+    let found = bounds::at_most(
+        side.candidates,
+        0,
+        k - have - 1,
+        &table,
+        positive,
+        negative,
+        FUEL,
+    );
+    found.holds
+}
+
+// True only where no group for k is below the node, since a side cannot get k vertices.
+fn lacks_sides<'a>(at: Node, k: u64, positive: &'a [u64; 64], negative: &'a [u64; 64]) -> bool
+    ensures { λ r. ⌜ FindsBarren (now (positive .entry)) (now (negative .entry)) k at r ⌝ }
+{
+    if lacks_side(at.left, k, positive, negative) {
+        return true;
+    }
+    lacks_side(at.right, k, positive, negative)
+}
 
 // Whether a branch was seen to have no group, and how many nodes count as visited in vain.
 struct Outlook {
@@ -734,6 +763,9 @@ fn look_ahead<'a>(
             barren: false,
             idle: idle + 1,
         };
+    }
+    if lacks_sides(at, k, positive, negative) {
+        return Outlook { barren: true, idle };
     }
     let tested = lacks_group(at, k, positive, negative, FUEL);
     if tested.barren {
@@ -949,27 +981,6 @@ fn largest_leaf(at: Node, k: u64, best: Best) -> Best
         left: left.chosen,
         right: right.chosen,
     }
-}
-
-// True only where the side cannot get k vertices.
-fn lacks_side<'a>(side: Side, k: u64, positive: &'a [u64; 64], negative: &'a [u64; 64]) -> bool
-    ensures { λ r. ⌜ (r ≡ true → ForSound (now (positive .entry)) (now (negative .entry)) (λ g. Lacks g k side)) ⌝ }
-{
-    let have = vertex_set::size(side.chosen);
-    if k <= have {
-        return false;
-    }
-    let table = [128u64; 64];
-    let found = bounds::at_most(
-        side.candidates,
-        0,
-        k - have - 1,
-        &table,
-        positive,
-        negative,
-        FUEL,
-    );
-    found.holds
 }
 
 // True only where no group has more than `most` vertices that is the chosen ones and some of these for the left and the right.
