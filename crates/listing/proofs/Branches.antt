@@ -2,23 +2,21 @@
 use Prim.Native.Nat.{ℕ, _+_, _-_, _^_, _≤_, _<_}
 use native.Mathlib.Omega.{arith}
 use mathlib.Core.Path.{_≡_, sym, ap, _∙_, subst}
-use mathlib.Core.Logic.{_≢_}
-use mathlib.Core.Bool.{Bool, true, false}
+use mathlib.Core.Bool.{true, false}
 use mathlib.Core.List.{List}
 use lib.ListN.{getD}
 use lib.Bits.{bitAnd, bitOr, or-lt}
 use borrow.Author.Tests.{lt-ltb}
-use Rattle.vertex_set.specs.Sets.{mem, Subset, size, lowest, single}
+use Rattle.vertex_set.specs.Sets.{mem, Subset, size, lowest}
 use Rattle.vertex_set.proofs.Booleans.{clash, refute, cases}
 use Rattle.vertex_set.proofs.Membership.{none-in, mem-lt, mem-ones, meet-in, meet-left, meet-right, union-left, union-right, union-mono, union-cases}
 use Rattle.vertex_set.proofs.LowestVertex.{lowest-lt, lowest-in, lowest-le}
 use Rattle.signed_graph.specs.declared.SignedGraph.{SignedGraph}
-use Rattle.signed_graph.specs.Graphs.{vertices, positiveEdge, negativeEdge}
+use Rattle.signed_graph.specs.Graphs.{negativeEdge}
 use Rattle.signed_graph.proofs.Soundness.{Sound, to-sound}
 use Rattle.clique.proofs.Balance.{usable-64}
 use Rattle.listing.specs.Nodes.{Parts, others, positives, negatives}
-use Rattle.listing.specs.Search.{graphOf}
-use Rattle.listing.specs.Bounds.{ForSound, AtMost, AtMostFrom, Tabled, AtMostBy, allIf}
+use Rattle.listing.specs.Bounds.{AtMost, AtMostBy, allIf}
 use Rattle.listing.proofs.Nodes.{others-keep, others-lack, parts-flip}
 use Rattle.listing.proofs.Falling.{size-falls}
 use Rattle.listing.proofs.SizeBounds.{size-but, size-empty}

@@ -7,7 +7,7 @@ use mathlib.Core.Bool.{Bool, true, _||_}
 use mathlib.Core.List.{List}
 use lib.ListN.{getD, replicate, getD-replicate}
 use lib.Bits.{bitAnd, bitOr}
-use Rattle.vertex_set.specs.Sets.{mem, Subset, size}
+use Rattle.vertex_set.specs.Sets.{mem, size}
 use Rattle.vertex_set.proofs.Booleans.{or-left, or-right}
 use Rattle.vertex_set.proofs.Membership.{none-in, mem-or, meet-in, meet-left, meet-right, union-left, union-right, union-cases}
 use Rattle.signed_graph.specs.declared.SignedGraph.{SignedGraph}

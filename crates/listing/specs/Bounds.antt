@@ -8,6 +8,7 @@ use lib.ListN.{getD}
 use lib.Bits.{bitOr}
 use Rattle.vertex_set.specs.Sets.{mem, Subset, size}
 use Rattle.signed_graph.specs.declared.SignedGraph.{SignedGraph}
+use Rattle.signed_graph.specs.Graphs.{vertices}
 use Rattle.signed_graph.specs.Soundness.{sound}
 use Rattle.listing.specs.declared.Side.{Side}
 use Rattle.listing.specs.declared.bounds.Places.{Places}
@@ -64,6 +65,12 @@ pub record TabledFrom (g : SignedGraph) (table : List ℕ) (v above m : ℕ) : T
   pub has : (p : ℕ) → v ≤ p → p < g .n → mem p above ≡ true
   pub tabled : Tabled g table above
   pub most : AtMostFrom g v m
+
+-- bounds for all vertices of the graph of n vertices, where it is sound
+abbrev pub SizeTable : ℕ → List ℕ → List ℕ → List ℕ → Type 0
+SizeTable n positive negative table =
+    let g : SignedGraph = graphOf n positive negative in
+    sound g ≡ true → Tabled g table (vertices g)
 
 -- all vertices, or none
 abbrev pub allIf : Bool → ℕ

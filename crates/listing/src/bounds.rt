@@ -1,14 +1,13 @@
 // Bounds on the size of the balanced sets that keep their sides within given vertices.
 ghost use mathlib.Core.Path.{_≡_};
-ghost use mathlib.Core.Bool.{true};
+ghost use mathlib.Core.Logic.{_≢_};
+ghost use mathlib.Core.Bool.{true, false};
 ghost use Prim.Native.Nat.{_+_, _≤_, _<_};
+ghost use lib.Bits.{bitOr};
 ghost use Rattle.vertex_set.specs.Sets.{mem};
-ghost use Rattle.signed_graph.specs.Graphs.{vertices};
-ghost use Rattle.signed_graph.specs.Soundness.{sound};
-ghost use Rattle.listing.specs.Search.{graphOf};
-ghost use Rattle.listing.specs.Bounds.{ForSound, AtMost, Picked, ColourClass, AtMostBy, allIf, AtMostFrom, Tabled, TabledFrom};
+ghost use Rattle.listing.specs.Bounds.{ForSound, AtMost, Picked, ColourClass, AtMostBy, allIf, AtMostFrom, TabledFrom, SizeTable};
 
-// How many times the search for a bound may branch: for an entry of the table.
+// How many times the search for a bound may branch, for an entry of the table.
 const TABLE_FUEL: u64 = 64;
 
 // Vertices for the left and for the right.
@@ -85,6 +84,29 @@ pub fn colours_within<'a>(
     true
 }
 
+// True only where no balanced set with its sides within these has more than `room` vertices, by the table at the lowest vertex or
+// by colours; false only where there is a vertex.
+pub fn is_bounded<'a>(
+    left: u64,
+    right: u64,
+    room: u64,
+    table: &'a [u64; 64],
+    positive: &'a [u64; 64],
+    negative: &'a [u64; 64],
+) -> bool
+    ensures { λ r. ⌜ (r ≡ true → AtMostBy (now (table .entry)) (now (positive .entry)) (now (negative .entry)) left right room) ⌝ }
+    ensures { λ r. ⌜ (r ≡ false → bitOr left right ≢ 0) ⌝ }
+{
+    let open = left | right;
+    if open == 0 {
+        return true;
+    }
+    if table[vertex_set::lowest(open)] <= room {
+        return true;
+    }
+    colours_within(left, right, room, positive, negative)
+}
+
 // All vertices where v is in s, else none.
 fn all_if_in(s: u64, v: usize) -> u64
     ensures { λ r. ⌜ r ≡ allIf (mem v s) ⌝ }
@@ -92,8 +114,8 @@ fn all_if_in(s: u64, v: usize) -> u64
     if vertex_set::contains(s, v) { !0 } else { 0 }
 }
 
-// True only where no balanced set with its sides within these has more than `room` vertices: seen by the table at the lowest
-// vertex, by colours, or by trying that vertex on the left, on the right and nowhere, as long as the fuel lasts.
+// True only where no balanced set with its sides within these has more than `room` vertices: seen at once, or by trying the lowest
+// vertex on the left, on the right and nowhere, as long as the fuel lasts.
 pub fn at_most<'a>(
     left: u64,
     right: u64,
@@ -106,15 +128,7 @@ pub fn at_most<'a>(
     ensures { λ r. ⌜ (r .holds ≡ true
         → AtMostBy (now (table .entry)) (now (positive .entry)) (now (negative .entry)) left right room) ⌝ }
 {
-    let open = left | right;
-    if open == 0 {
-        return Bounded { holds: true, fuel };
-    }
-    let v = vertex_set::lowest(open);
-    if table[v] <= room {
-        return Bounded { holds: true, fuel };
-    }
-    if colours_within(left, right, room, positive, negative) {
+    if is_bounded(left, right, room, table, positive, negative) {
         return Bounded { holds: true, fuel };
     }
     if fuel == 0 {
@@ -123,6 +137,7 @@ pub fn at_most<'a>(
     if room == 0 {
         return Bounded { holds: false, fuel };
     }
+    let v = vertex_set::lowest(left | right);
     let others = !vertex_set::single(v);
     let same = positive[v] & others;
     let cross = negative[v] & others;
@@ -192,8 +207,7 @@ fn bound_from<'a>(
 // For each vertex of a graph of n, a bound on the balanced sets among the vertices from it up.
 pub fn size_table<'a>(n: u64, positive: &'a [u64; 64], negative: &'a [u64; 64]) -> [u64; 64]
     requires { ⌜ n ≤ 64 ⌝ }
-    ensures { λ r. ⌜ (sound (graphOf n (now (positive .entry)) (now (negative .entry))) ≡ true
-        → Tabled (graphOf n (now (positive .entry)) (now (negative .entry))) r (vertices (graphOf n (now (positive .entry)) (now (negative .entry))))) ⌝ }
+    ensures { λ r. ⌜ SizeTable n (now (positive .entry)) (now (negative .entry)) r ⌝ }
 {
     let mut table = [0u64; 64];
     let mut above: u64 = 0;

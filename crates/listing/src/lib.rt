@@ -1000,8 +1000,7 @@ fn outdone<'a>(
     if most < have {
         return false;
     }
-    let found = bounds::at_most(left, right, most - have, table, positive, negative, 0);
-    found.holds
+    bounds::is_bounded(left, right, most - have, table, positive, negative)
 }
 
 // The largest of the largest group so far and of the groups below a node, given by its sides; of equals, the first.

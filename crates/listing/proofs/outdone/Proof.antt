@@ -10,7 +10,7 @@ use Rattle.listing.proofs.outdone.Tie as tie
 returns-2 : tie.Need-returns-2
 returns-2 c e n so bounds =
     let have = c .before .before .size in
-    outdone-have _ _ _ _ (have .result) (have .ensures) (c .before .if1 .left) (c .at-most .ensures e n so bounds)
+    outdone-have _ _ _ _ (have .result) (have .ensures) (c .before .if1 .left) (c .is-bounded .ensures .0 e n so bounds)
 
 pub outdone-spec : {M : Type 1} → statement M
 outdone-spec =

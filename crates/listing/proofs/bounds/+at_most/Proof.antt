@@ -1,23 +1,22 @@
 -- `listing::bounds::at_most` meets its contract. The candidates fall in number at each call of itself. Assumes nothing.
-use Prim.Native.Nat.{ℕ, _^_, _<_}
+use Prim.Native.Nat.{ℕ, _<_}
 use native.Mathlib.Omega.{arith}
-use mathlib.Core.Path.{_≡_, refl, ap, subst}
-use mathlib.Core.Bool.{true, false}
+use mathlib.Core.Path.{refl, ap}
+use mathlib.Core.Bool.{false}
 use lib.ListN.{getD}
 use lib.Bits.{bitOr}
 use borrow.Author.Needs.{needs}
 use borrow.Author.Tests.{not-true, not-false}
 use borrow.Fn.Kinds.{In}
 use borrow.Fn.PlainCycle.{Measures, is, falls, and}
-use Rattle.vertex_set.specs.Sets.{size, lowest}
+use Rattle.vertex_set.specs.Sets.{size}
 use Rattle.vertex_set.proofs.Booleans.{clash}
 use Rattle.vertex_set.proofs.lowest.Reads as lowest-reads
 use Rattle.vertex_set.proofs.single.Reads as single-reads
-use Rattle.listing.specs.Nodes.{others}
 use Rattle.listing.proofs.Colours.{outside}
-use Rattle.listing.proofs.Branches.{Leads, lowest-leads, beside-falls, without-falls, at-most-none, at-most-table, at-most-branch}
+use Rattle.listing.proofs.Branches.{Leads, lowest-leads, beside-falls, without-falls, at-most-branch}
 use Rattle.listing.proofs.bounds.all_if_in.Reads as all-if-in-reads
-use Rattle.listing.proofs.bounds.colours_within.Reads as colours-within-reads
+use Rattle.listing.proofs.bounds.is_bounded.Reads as is-bounded-reads
 use Rattle.listing.proofs.bounds.at_most.Reads as reads
 use Rattle.listing.proofs.bounds.at_most.Kinds as kinds
 use Rattle.listing.proofs.bounds.+at_most.{statement}
@@ -37,10 +36,10 @@ Falls t = and 1 kinds.ps (falls 1 kinds.ps _<_ μ t) reads.Pre
 -- what the calls ask and give
 abbrev calls : ℕ → lts.Claims
 calls t = (
+  is-bounded-reads.Asked,
+  is-bounded-reads.Learnt,
   lowest-reads.Asked,
   lowest-reads.Learnt,
-  colours-within-reads.Asked,
-  colours-within-reads.Learnt,
   single-reads.Asked,
   single-reads.Learnt,
   all-if-in-reads.Asked,
@@ -52,38 +51,28 @@ calls t = (
 module _ (t : ℕ) where
   -- the vertex to try
   leads : (c : lts.After-lowest (calls t) (Starts t) reads.Post)
-      → Leads t (c .before .before .args .left) (c .before .before .args .right) (c .lowest .result)
+      → Leads t (c .before .before .before .before .before .args .left) (c .before .before .before .before .before .args .right) (c .lowest .result)
   leads c =
-      let start = c .before .before in
+      let not-yet = c .before .before .before in
+      let start = not-yet .before .before in
       lowest-leads t (start .args .left) (start .args .right) (c .lowest .result) (start .pre .0)
-      (start .fits .left .fits) (start .fits .right .fits) (c .before .if1 .left) (c .lowest .ensures)
+      (start .fits .left .fits) (start .fits .right .fits) (not-yet .before .is-bounded .ensures .1 (not-yet .if1 .left)) (c .lowest .ensures)
 
   returns : lts.Need-returns (calls t) (Starts t) reads.Post
-  returns c = λ _.
-      let a = c .before .args in
-      at-most-none (a .table .now) (a .positive .now) (a .negative .now) (a .left) (a .right) (a .room) (c .if1 .taken)
+  returns c = λ _. c .before .is-bounded .ensures .0 (c .if1 .taken)
 
-  returns-2 : lts.Need-returns-2 (calls t) (Starts t) reads.Post
-  returns-2 c = λ _.
-      let v = c .before .before in
-      let a = v .before .before .args in
-      at-most-table (a .table .now) (a .positive .now) (a .negative .now) (a .left) (a .right) (a .room) (leads v) (c .if2 .taken)
+  returns-4 : lts.Need-returns-4 (calls t) (Starts t) reads.Post
+  returns-4 c = λ e. clash _ e (not-true _ (c .if4 .taken))
 
-  returns-3 : lts.Need-returns-3 (calls t) (Starts t) reads.Post
-  returns-3 c = λ _ n so _. c .before .colours-within .ensures (c .if3 .taken) n so
-
-  returns-6 : lts.Need-returns-6 (calls t) (Starts t) reads.Post
-  returns-6 c = λ e. clash _ e (not-true _ (c .if6 .taken))
-
-  returns-7 : lts.Need-returns-7 (calls t) (Starts t) reads.Post
-  returns-7 c = λ e. clash _ e (not-true _ (c .if7 .taken))
+  returns-5 : lts.Need-returns-5 (calls t) (Starts t) reads.Post
+  returns-5 c = λ e. clash _ e (not-true _ (c .if5 .taken))
 
   -- the candidates fall in number: with the vertex on the left, on the right, and without it
   left-falls : lts.Need-at-most-requires (calls t) (Starts t) reads.Post
   left-falls c κs =
       let one = c .before .before .before .before in
-      let v = one .before .before .before .before .before .before .before in
-      let a = v .before .before .args in (
+      let v = one .before in
+      let a = v .before .before .before .before .before .args in (
         beside-falls (leads v) _ (ap outside (one .single .ensures)) (getD (a .positive .now) (v .lowest .result) 0)
             (getD (a .negative .now) (v .lowest .result) 0) (c .before .all-if-in .result),
         tt,
@@ -93,8 +82,8 @@ module _ (t : ℕ) where
   right-falls c κs =
       let there = c .before .before .before in
       let one = there .before .before .before .before in
-      let v = one .before .before .before .before .before .before .before in
-      let a = v .before .before .args in (
+      let v = one .before in
+      let a = v .before .before .before .before .before .args in (
         beside-falls (leads v) _ (ap outside (one .single .ensures)) (getD (a .negative .now) (v .lowest .result) 0)
             (getD (a .positive .now) (v .lowest .result) 0) (there .all-if-in2 .result),
         tt,
@@ -103,45 +92,42 @@ module _ (t : ℕ) where
   rest-falls : lts.Need-at-most-requires-3 (calls t) (Starts t) reads.Post
   rest-falls c κs =
       let one = c .before .before .before .before .before .before .before .before .before .before in
-      (without-falls (leads (one .before .before .before .before .before .before .before)) _ (ap outside (one .single .ensures)), tt)
+      (without-falls (leads (one .before)) _ (ap outside (one .single .ensures)), tt)
 
-  returns-8 : lts.Need-returns-8 (calls t) (Starts t) reads.Post
-  returns-8 c = λ e.
+  returns-6 : lts.Need-returns-6 (calls t) (Starts t) reads.Post
+  returns-6 c = λ e.
       let second = c .before .before .before in
       let first = second .before .before .before in
       let there = first .before in
       let here = there .before in
       let one = here .before .before .before in
-      let v = one .before .before .before .before .before .before .before in
-      let a = v .before .before .args in
+      let v = one .before in
+      let a = v .before .before .before .before .before .args in
       at-most-branch (a .table .now) (a .positive .now) (a .negative .now) (a .left) (a .right) (a .room) (leads v)
-      _ _ _ (ap outside (one .single .ensures)) (here .all-if-in .ensures) (there .all-if-in2 .ensures) (omega (arith, one .before .if5 .left))
-      (first .at-most .ensures (not-false _ (second .before .if6 .left))) (second .at-most2 .ensures (not-false _ (c .before .if7 .left))) (c .at-most3 .ensures e)
+      _ _ _ (ap outside (one .single .ensures)) (here .all-if-in .ensures) (there .all-if-in2 .ensures)
+      (omega (arith, v .before .if3 .left)) (first .at-most .ensures (not-false _ (second .before .if4 .left)))
+      (second .at-most2 .ensures (not-false _ (c .before .if5 .left))) (c .at-most3 .ensures e)
 
 pub +at-most-spec : {M : Type 1} → statement M
 +at-most-spec = close μ λ t. lts.spec (calls t) (Starts t) reads.Post
+    (λ c κs. search needs)
     (returns t)
-    (λ c κs. search needs)
-    (λ c. record { fits = omega (arith, leads t c .small) })
-    (λ c. leads t c .small)
-    (returns-2 t)
-    (λ c κs. search needs)
-    (returns-3 t)
     (λ c e. clash false e refl)
     (λ c e. clash false e refl)
     (λ c κs. search needs)
-    (λ c. record { fits = omega (arith, leads t (c .before .before .before .before .before .before .before) .small) })
-    (λ c. leads t (c .before .before .before .before .before .before .before) .small)
-    (λ c. record { fits = omega (arith, leads t (c .before .before .before .before .before .before .before .before) .small) })
-    (λ c. leads t (c .before .before .before .before .before .before .before .before) .small)
+    (λ c κs. search needs)
+    (λ c. record { fits = omega (arith, leads t (c .before) .small) })
+    (λ c. leads t (c .before) .small)
+    (λ c. record { fits = omega (arith, leads t (c .before .before) .small) })
+    (λ c. leads t (c .before .before) .small)
     (λ c κs. search needs)
     (λ c κs. search needs)
     (λ c. search needs)
     (λ c. search needs)
     (left-falls t)
-    (returns-6 t)
+    (returns-4 t)
     (λ c. search needs)
     (right-falls t)
-    (returns-7 t)
+    (returns-5 t)
     (rest-falls t)
-    (returns-8 t)
+    (returns-6 t)
