@@ -29,7 +29,7 @@ use Rattle.listing.specs.Pages.{due}
 use Rattle.listing.specs.Calls.{dueGroups}
 use Rattle.listing.specs.Largest.{sizeOf, larger, largestOf, answerTo, largestBy, largestGroup, numberOf, largestNumberBy, largestNumber}
 use Rattle.listing.specs.Nodes.{chosen, undecided, rootOf, putIn, leaveOut, withVertex, Valid, Same, short, leafItem, groupAt}
-use Rattle.listing.specs.Search.{graphOf, dueBelow, leafItems}
+use Rattle.listing.specs.Search.{graphOf, dueBelow, leafItems, FindsBarren}
 use Rattle.listing.specs.Bounds.{ForSound, Tabled, Outdone}
 use Rattle.listing.specs.Bests.{bestItem, better, bestOf, Finds}
 use Rattle.listing.proofs.Listing.{listing-sorted, listing-exact}
@@ -112,6 +112,10 @@ undecided-usable {g} d va p m =
 same-refl : {g : SignedGraph} {k : ℕ} {d : Node} → Valid g d → Same g k d d
 same-refl va = record { valid = va; to = λ x _ b. b; from = λ x _ b. b }
 
+pub finds-as : {top d : Node} → top ≡ d → (table positive negative : List ℕ) (k : ℕ) (b r : Best)
+    → Finds table positive negative k top b r → Finds table positive negative k d b r
+finds-as is table positive negative k b r = subst (λ (e : Node). Finds table positive negative k e b r) is
+
 module _ (table positive negative : List ℕ) (k : ℕ) (d : Node) (b : Best) where
   -- no group below has more vertices than the largest so far
   pub finds-none : ForSound positive negative (λ g.
@@ -123,10 +127,10 @@ module _ (table positive negative : List ℕ) (k : ℕ) (d : Node) (b : Best) wh
       let r = of-below d (dueGroups g k Start) x i in
       outdone-below d (b .size) (h n so (λ v m. bounds v (undecided-usable d va v m))) (due-listed g (to-sound g so) k Start x (r .0)) (r .1))))
 
-  pub finds-short : short k d ≡ true → Finds table positive negative k d b b
-  unfolding bestOf short
-  finds-short e n so va _ =
-      sym (ap (bestOf b) (none-due _ (to-sound _ so) k Start d (short-barren _ (to-sound _ so) k d (not-true _ e))))
+  -- no group is below
+  pub finds-barren : FindsBarren positive negative k d true → Finds table positive negative k d b b
+  unfolding bestOf
+  finds-barren barren n so va _ = sym (ap (bestOf b) (none-due _ (to-sound _ so) k Start d (barren refl n so va)))
 
   pub finds-leaf : (after : Best) (u : ℕ) → u ≡ undecided d → u ≡ 0 → after ≡ bestOf b (leafItems k Start d)
       → Finds table positive negative k d b after

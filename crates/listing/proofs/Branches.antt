@@ -9,8 +9,8 @@ use lib.Bits.{bitAnd, bitOr, or-lt}
 use borrow.Author.Tests.{lt-ltb}
 use Rattle.vertex_set.specs.Sets.{mem, Subset, size, lowest}
 use Rattle.vertex_set.proofs.Booleans.{clash, refute, cases}
-use Rattle.vertex_set.proofs.Membership.{none-in, mem-lt, mem-ones, meet-in, meet-left, meet-right, union-left, union-right, union-mono, union-cases}
-use Rattle.vertex_set.proofs.LowestVertex.{lowest-lt, lowest-in, lowest-le}
+use Rattle.vertex_set.proofs.Membership.{none-in, mem-lt, mem-ones, lt-of-members, meet-in, meet-left, meet-right, union-left, union-right, union-mono, union-cases}
+use Rattle.vertex_set.proofs.LowestVertex.{lowest-in, lowest-le}
 use Rattle.signed_graph.specs.declared.SignedGraph.{SignedGraph}
 use Rattle.signed_graph.specs.Graphs.{negativeEdge}
 use Rattle.signed_graph.proofs.Soundness.{Sound, to-sound}
@@ -131,26 +131,27 @@ module _ (g : SignedGraph) (so : Sound g) (left right room v : ℕ) (small : v <
           meet-in p t o (sub p m)
           (ap (mem p) is-o ∙ meet-right p s (others v) (others-keep v small p s fits m (λ e. clash (mem p s) m (ap (λ (z : ℕ). mem z s) e ∙ off))))
 
--- ---- the lowest candidate
+-- ---- a candidate
 
--- v is the lowest of the candidates, of which there are t
+-- v is one of the candidates, of which there are t
 pub record Leads (t left right v : ℕ) : Type 0 where
   pub few : size (bitOr left right) ≡ t
   pub small : v < 64
   pub here : mem v (bitOr left right) ≡ true
-  pub least : (p : ℕ) → mem p (bitOr left right) ≡ true → v ≤ p
 
-pub lowest-leads : (t left right v : ℕ) → size (bitOr left right) ≡ t → left < 2 ^ 64 → right < 2 ^ 64
-    → (bitOr left right ≡ 0 → ⊥) → v ≡ lowest (bitOr left right) → Leads t left right v
-lowest-leads t left right v few l-64 r-64 some is =
-    let s : ℕ = bitOr left right in
-    let fits : s < 2 ^ 64 = or-lt 64 left right l-64 r-64 in
-    record {
-      few = few;
-      small = subst (λ (z : ℕ). z < 64) (sym is) (lowest-lt s (omega arith) fits);
-      here = ap (λ (z : ℕ). mem z s) is ∙ lowest-in s (omega arith) fits;
-      least = λ p m. subst (λ (z : ℕ). z ≤ p) (sym is) (lowest-le s p m);
-    }
+module _ (left right : ℕ) (l-64 : left < 2 ^ 64) (r-64 : right < 2 ^ 64) (some : bitOr left right ≡ 0 → ⊥) (v : ℕ) where
+  fits : bitOr left right < 2 ^ 64
+  fits = or-lt 64 left right l-64 r-64
+
+  -- the lowest of some of them
+  pub lowest-among : (chosen : ℕ) → Subset chosen (bitOr left right) → (chosen ≡ 0 → ⊥) → v ≡ lowest chosen
+      → mem v (bitOr left right) ≡ true
+  lowest-among chosen sub some′ is =
+      let fits′ : chosen < 2 ^ 64 = lt-of-members 64 chosen (λ p m. mem-lt 64 p (bitOr left right) fits (sub p m)) in
+      sub v (ap (λ (z : ℕ). mem z chosen) is ∙ lowest-in chosen (omega arith) fits′)
+
+  pub leads : (t : ℕ) → size (bitOr left right) ≡ t → mem v (bitOr left right) ≡ true → Leads t left right v
+  leads t few here = record { few = few; small = mem-lt 64 v (bitOr left right) fits here; here = here }
 
 module _ {t left right v : ℕ} (lead : Leads t left right v) (o : ℕ) (is-o : o ≡ others v) where
   lacks : (s : ℕ) → mem v (bitAnd s o) ≡ false
@@ -189,13 +190,16 @@ module _ (table positive negative : List ℕ) (left right room : ℕ) where
       )
 
   module _ {t v : ℕ} (lead : Leads t left right v) where
-    pub at-most-table : getD table v 0 ≤ room → AtMostBy table positive negative left right room
-    at-most-table le n so tabled l r h in-l in-r =
+    pub at-most-table : v ≡ lowest (bitOr left right) → getD table v 0 ≤ room → AtMostBy table positive negative left right room
+    at-most-table is le n so tabled l r h in-l in-r =
         omega (
           arith,
-          tabled v (lead .here) l r h (λ p m. lead .least p (union-left p left right (in-l p m)))
-              (λ p m. lead .least p (union-right p left right (in-r p m))),
+          tabled v (lead .here) l r h (λ p m. least p (union-left p left right (in-l p m)))
+              (λ p m. least p (union-right p left right (in-r p m))),
         )
+      where
+        least : (p : ℕ) → mem p (bitOr left right) ≡ true → v ≤ p
+        least p m = subst (λ (z : ℕ). z ≤ p) (sym is) (lowest-le (bitOr left right) p m)
 
     pub at-most-branch : (o here there : ℕ) → o ≡ others v → here ≡ allIf (mem v left) → there ≡ allIf (mem v right) → 0 < room
         → AtMostBy table positive negative (beside o left (getD positive v 0) here) (beside o right (getD negative v 0) here) (room - 1)

@@ -114,8 +114,51 @@ fn all_if_in(s: u64, v: usize) -> u64
     if vertex_set::contains(s, v) { !0 } else { 0 }
 }
 
-// True only where no balanced set with its sides within these has more than `room` vertices: seen at once, or by trying the lowest
-// vertex on the left, on the right and nowhere, as long as the fuel lasts.
+// The vertices that are alone in their colour class; none where they are not asked for. Nothing is promised of them.
+fn alone<'a>(
+    left: u64,
+    right: u64,
+    asked: bool,
+    positive: &'a [u64; 64],
+    negative: &'a [u64; 64],
+) -> u64 {
+    let mut near = left;
+    let mut far = right;
+    let mut found: u64 = 0;
+    let mut colours: u64 = 0;
+    while asked & (near | far != 0) {
+        if 64 <= colours {
+            return found;
+        }
+        let class = colour_class(near, far, positive, negative);
+        near = near & !class.left;
+        far = far & !class.right;
+        found = found | super::only(class.left | class.right);
+        colours += 1;
+    }
+    found
+}
+
+// The vertex to try: one that is alone in its colour class where that is asked for and there is one, else the lowest.
+fn branch_vertex<'a>(
+    left: u64,
+    right: u64,
+    by_class: bool,
+    positive: &'a [u64; 64],
+    negative: &'a [u64; 64],
+) -> usize
+    ensures { λ r. ⌜ (bitOr left right ≢ 0 → mem r (bitOr left right) ≡ true) ⌝ }
+{
+    let open = left | right;
+    let some = open & alone(left, right, by_class, positive, negative);
+    if some != 0 {
+        return vertex_set::lowest(some);
+    }
+    vertex_set::lowest(open)
+}
+
+// Holds only where no balanced set with its sides within these has more than `room` vertices: seen at once, or by trying a vertex on
+// the left, on the right and nowhere, as long as the fuel lasts.
 pub fn at_most<'a>(
     left: u64,
     right: u64,
@@ -123,6 +166,7 @@ pub fn at_most<'a>(
     table: &'a [u64; 64],
     positive: &'a [u64; 64],
     negative: &'a [u64; 64],
+    by_class: bool,
     fuel: u64,
 ) -> Bounded
     ensures { λ r. ⌜ (r .holds ≡ true
@@ -137,7 +181,7 @@ pub fn at_most<'a>(
     if room == 0 {
         return Bounded { holds: false, fuel };
     }
-    let v = vertex_set::lowest(left | right);
+    let v = branch_vertex(left, right, by_class, positive, negative);
     let others = !vertex_set::single(v);
     let same = positive[v] & others;
     let cross = negative[v] & others;
@@ -150,6 +194,7 @@ pub fn at_most<'a>(
         table,
         positive,
         negative,
+        by_class,
         fuel - 1,
     );
     if !on_left.holds {
@@ -162,6 +207,7 @@ pub fn at_most<'a>(
         table,
         positive,
         negative,
+        by_class,
         on_left.fuel,
     );
     if !on_right.holds {
@@ -174,6 +220,7 @@ pub fn at_most<'a>(
         table,
         positive,
         negative,
+        by_class,
         on_right.fuel,
     )
 }
@@ -197,7 +244,16 @@ fn bound_from<'a>(
     }
     let same = positive[v] & above;
     let cross = negative[v] & above;
-    let found = at_most(same, cross, most - 1, table, positive, negative, TABLE_FUEL);
+    let found = at_most(
+        same,
+        cross,
+        most - 1,
+        table,
+        positive,
+        negative,
+        false,
+        TABLE_FUEL,
+    );
     if found.holds {
         return most;
     }

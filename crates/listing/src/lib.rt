@@ -727,6 +727,7 @@ fn lacks_side<'a>(side: Side, k: u64, positive: &'a [u64; 64], negative: &'a [u6
         &table,
         positive,
         negative,
+        false,
         FUEL,
     );
     found.holds
@@ -983,7 +984,8 @@ fn largest_leaf(at: Node, k: u64, best: Best) -> Best
     }
 }
 
-// True only where no group has more than `most` vertices that is the chosen ones and some of these for the left and the right.
+// True only where no group has more than `most` vertices that is the chosen ones and some of these for the left and the right, as
+// far as the fuel lasts.
 fn outdone<'a>(
     chosen: u64,
     left: u64,
@@ -992,6 +994,7 @@ fn outdone<'a>(
     table: &'a [u64; 64],
     positive: &'a [u64; 64],
     negative: &'a [u64; 64],
+    fuel: u64,
 ) -> bool
     ensures { λ r. ⌜ (r ≡ true → ForSound (now (positive .entry)) (now (negative .entry)) (λ g.
         Tabled g (now (table .entry)) (bitOr left right) → Outdone g chosen left right most)) ⌝ }
@@ -1000,84 +1003,131 @@ fn outdone<'a>(
     if most < have {
         return false;
     }
-    bounds::is_bounded(left, right, most - have, table, positive, negative)
+    let room = most - have;
+    if fuel == 0 {
+        return bounds::is_bounded(left, right, room, table, positive, negative);
+    }
+    let found = bounds::at_most(left, right, room, table, positive, negative, true, fuel);
+    found.holds
 }
 
-// The largest of the largest group so far and of the groups below a node, given by its sides; of equals, the first.
-fn largest_below<'a>(
-    left: u64,
-    left_candidates: u64,
-    left_excluded: u64,
-    right: u64,
-    right_candidates: u64,
-    right_excluded: u64,
+// The largest group met so far, and how many nodes count as visited in vain since.
+struct Hunt {
+    best: Best,
+    idle: u64,
+}
+
+// Barren only where no group for k below the node has more vertices than the largest so far; tested only where enough nodes were
+// visited in vain.
+fn look_for_larger<'a>(
+    at: Node,
     k: u64,
     table: &'a [u64; 64],
     positive: &'a [u64; 64],
     negative: &'a [u64; 64],
     best: Best,
-) -> Best
-    ensures { λ r. ⌜ Finds (now (table .entry)) (now (positive .entry)) (now (negative .entry)) k
-        (nodeOf left «left_candidates» «left_excluded» right «right_candidates» «right_excluded») best r ⌝ }
+    idle: u64,
+) -> Outlook
+    ensures { λ r. ⌜ (r .barren ≡ true → Finds (now (table .entry)) (now (positive .entry)) (now (negative .entry)) k at best best) ⌝ }
 {
+    if idle < PATIENCE {
+        return Outlook {
+            barren: false,
+            idle: idle + 1,
+        };
+    }
+    if lacks_sides(at, k, positive, negative) {
+        return Outlook { barren: true, idle };
+    }
+    let left = at.left;
+    let right = at.right;
     if outdone(
-        left | right,
-        left_candidates,
-        right_candidates,
+        left.chosen | right.chosen,
+        left.candidates,
+        right.candidates,
         best.size,
         table,
         positive,
         negative,
+        FUEL,
     ) {
-        return best;
+        return Outlook { barren: true, idle };
     }
-    let at = Node {
-        left: Side {
-            chosen: left,
-            candidates: left_candidates,
-            excluded: left_excluded,
-        },
-        right: Side {
-            chosen: right,
-            candidates: right_candidates,
-            excluded: right_excluded,
-        },
-    };
+    Outlook {
+        barren: false,
+        idle: 0,
+    }
+}
+
+// The largest of the largest group so far and of the groups below a node; of equals, the first. The node goes as in `list_below`.
+fn largest_below<'a>(
+    lc: u64,
+    lp: u64,
+    lx: u64,
+    rc: u64,
+    rp: u64,
+    rx: u64,
+    k: u64,
+    table: &'a [u64; 64],
+    positive: &'a [u64; 64],
+    negative: &'a [u64; 64],
+    best: Best,
+    idle: u64,
+) -> Hunt
+    ensures { λ r. ⌜ Finds (now (table .entry)) (now (positive .entry)) (now (negative .entry)) k (nodeOf lc lp lx rc rp rx) best (r .best) ⌝ }
+{
+    if outdone(lc | rc, lp, rp, best.size, table, positive, negative, 0) {
+        return Hunt { best, idle };
+    }
+    let at = node_of(lc, lp, lx, rc, rp, rx);
     if is_short(at, k) {
-        return best;
+        return Hunt { best, idle };
     }
-    let open = undecided(at);
+    let open = lp | rp;
     if open == 0 {
-        return largest_leaf(at, k, best);
+        return Hunt {
+            best: largest_leaf(at, k, best),
+            idle,
+        };
     }
     let v = vertex_set::lowest(open);
-    let with = put_in(at, v, positive[v], negative[v]);
+    let a = put_in(at, v, positive[v], negative[v]);
     let first = largest_below(
-        with.left.chosen,
-        with.left.candidates,
-        with.left.excluded,
-        with.right.chosen,
-        with.right.candidates,
-        with.right.excluded,
+        a.left.chosen,
+        a.left.candidates,
+        a.left.excluded,
+        a.right.chosen,
+        a.right.candidates,
+        a.right.excluded,
         k,
         table,
         positive,
         negative,
         best,
+        idle,
     );
-    let without = leave_out(at, v);
+    let met = first.best;
+    let b = leave_out(at, v);
+    let ahead = look_for_larger(b, k, table, positive, negative, met, first.idle);
+    if ahead.barren {
+        return Hunt {
+            best: met,
+            idle: ahead.idle,
+        };
+    }
     largest_below(
-        without.left.chosen,
-        without.left.candidates,
-        without.left.excluded,
-        without.right.chosen,
-        without.right.candidates,
-        without.right.excluded,
+        b.left.chosen,
+        b.left.candidates,
+        b.left.excluded,
+        b.right.chosen,
+        b.right.candidates,
+        b.right.excluded,
         k,
         table,
         positive,
         negative,
-        first,
+        met,
+        ahead.idle,
     )
 }
 
@@ -1093,7 +1143,7 @@ fn largest_sound(g: SignedGraph, k: u64) -> LargestGroup
     };
     let all = vertex_set::below(g.n);
     let table = bounds::size_table(g.n, &g.positive, &g.negative);
-    let best = largest_below(
+    let hunt = largest_below(
         0,
         all,
         0,
@@ -1105,7 +1155,9 @@ fn largest_sound(g: SignedGraph, k: u64) -> LargestGroup
         &g.positive,
         &g.negative,
         none,
+        0,
     );
+    let best = hunt.best;
     if best.size == 0 {
         return LargestGroup {
             outcome: Finding::NoGroup,

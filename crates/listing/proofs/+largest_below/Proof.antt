@@ -1,23 +1,24 @@
 -- `listing::largest_below` meets its contract. The vertices still undecided fall in number at each call of itself. Assumes nothing.
 use Prim.Native.Nat.{ℕ, _<_}
 use native.Mathlib.Omega.{arith}
-use mathlib.Core.Path.{sym, _∙_}
-use lib.Bits.{bitOr}
+use mathlib.Core.Path.{sym, ap, _∙_}
+use lib.Bits.{bitOr, or-lt}
 use borrow.Author.Needs.{needs}
 use borrow.Fn.Kinds.{In}
 use borrow.Fn.PlainCycle.{Measures, is, falls, and}
 use Rattle.vertex_set.specs.Sets.{size}
 use Rattle.vertex_set.proofs.lowest.Reads as lowest-reads
-use Rattle.listing.specs.declared.Node.{Node}
-use Rattle.listing.specs.Nodes.{nodeOf}
+use Rattle.listing.specs.Nodes.{undecided, nodeOf}
 use Rattle.listing.proofs.Falling.{Decides, decides-lowest, put-falls, out-falls}
-use Rattle.listing.proofs.Bests.{finds-none, finds-short, finds-leaf, finds-both}
+use Rattle.listing.proofs.BarrenBranches.{finds-short}
+use Rattle.listing.proofs.Bests.{finds-as, finds-none, finds-barren, finds-leaf, finds-both}
 use Rattle.listing.proofs.is_short.Reads as is-short-reads
 use Rattle.listing.proofs.largest_leaf.Reads as largest-leaf-reads
 use Rattle.listing.proofs.leave_out.Reads as leave-out-reads
+use Rattle.listing.proofs.look_for_larger.Reads as look-for-larger-reads
+use Rattle.listing.proofs.node_of.Reads as node-of-reads
 use Rattle.listing.proofs.outdone.Reads as outdone-reads
 use Rattle.listing.proofs.put_in.Reads as put-in-reads
-use Rattle.listing.proofs.undecided.Reads as undecided-reads
 use Rattle.listing.proofs.largest_below.Reads as reads
 use Rattle.listing.proofs.largest_below.Kinds as kinds
 use Rattle.listing.proofs.+largest_below.{statement}
@@ -39,10 +40,10 @@ abbrev calls : ℕ → lts.Claims
 calls t = (
   outdone-reads.Asked,
   outdone-reads.Learnt,
+  node-of-reads.Asked,
+  node-of-reads.Learnt,
   is-short-reads.Asked,
   is-short-reads.Learnt,
-  undecided-reads.Asked,
-  undecided-reads.Learnt,
   largest-leaf-reads.Asked,
   largest-leaf-reads.Learnt,
   lowest-reads.Asked,
@@ -53,60 +54,78 @@ calls t = (
   reads.Post,
   leave-out-reads.Asked,
   leave-out-reads.Learnt,
+  look-for-larger-reads.Asked,
+  look-for-larger-reads.Learnt,
 )
 
 module _ (t : ℕ) where
-  -- the node
-  abbrev node : lts.Start (calls t) (Starts t) reads.Post → Node
-  node c =
-      nodeOf (c .args .left) (c .args .left-candidates) (c .args .left-excluded)
-      (c .args .right) (c .args .right-candidates) (c .args .right-excluded)
-
   -- the vertex to decide
   decides : (c : lts.After-lowest (calls t) (Starts t) reads.Post)
-      → Decides t (node (c .before .before .before .before .before .before .before)) (c .lowest .result)
+      → Decides t (c .before .before .before .before .node-of .result) (c .lowest .result)
   decides c =
-      let u = c .before .before .undecided in
-      let start = c .before .before .before .before .before .before .before in
-      decides-lowest t (node start) (node start) (start .pre .0) (λ p m. m)
-      (u .result) (u .ensures) (u .ok) (c .before .if3 .left) (c .lowest .result) (c .lowest .ensures)
+      let node = c .before .before .before .before in
+      let start = node .before .before .before in
+      let a = start .args in
+      let same = ap undecided (node .node-of .ensures) in
+      decides-lowest t (node .node-of .result) (node .node-of .result) (ap size same ∙ start .pre .0) (λ p m. m)
+      (bitOr (a .lp) (a .rp)) (sym same) (or-lt 64 (a .lp) (a .rp) (start .fits .lp .fits) (start .fits .rp .fits))
+      (c .before .if3 .left) (c .lowest .result) (c .lowest .ensures)
 
   returns : lts.Need-returns (calls t) (Starts t) reads.Post
   returns c =
-      let start = c .before .before in
-      finds-none (start .args .table .now) _ _ _ (node start) _ (c .before .outdone .ensures (c .if1 .taken))
+      let a = c .before .before .args in
+      finds-none (a .table .now) _ _ _ (nodeOf (a .lc) (a .lp) (a .lx) (a .rc) (a .rp) (a .rx)) _ (c .before .outdone .ensures (c .if1 .taken))
 
   returns-2 : lts.Need-returns-2 (calls t) (Starts t) reads.Post
   returns-2 c =
       let short = c .before in
-      let start = short .before .before .before in
-      finds-short (start .args .table .now) _ _ _ (node start) _ (sym (short .is-short .ensures) ∙ c .if2 .taken)
+      let node = short .before in
+      let a = node .before .before .before .args in
+      finds-as (node .node-of .ensures) (a .table .now) _ _ _ _ _
+      (finds-barren (a .table .now) _ _ _ (node .node-of .result) _ (finds-short _ _ _ _ (sym (short .is-short .ensures) ∙ c .if2 .taken)))
 
   returns-3 : lts.Need-returns-3 (calls t) (Starts t) reads.Post
   returns-3 c =
-      let u = c .before .before in
-      let start = u .before .before .before .before .before in
-      finds-leaf (start .args .table .now) _ _ _ (node start) _ _ _ (u .undecided .ensures)
-      (c .before .if3 .taken) (c .largest-leaf .ensures)
+      let node = c .before .before .before .before in
+      let a = node .before .before .before .args in
+      finds-as (node .node-of .ensures) (a .table .now) _ _ _ _ _
+      (finds-leaf (a .table .now) _ _ _ (node .node-of .result) _ _ _ (sym (ap undecided (node .node-of .ensures)))
+      (c .before .if3 .taken) (c .largest-leaf .ensures))
 
   returns-4 : lts.Need-returns-4 (calls t) (Starts t) reads.Post
   returns-4 c =
-      let first = c .before .before in
+      let ahead = c .before in
+      let out = ahead .before in
+      let first = out .before .before in
       let put = first .before in
       let v = put .before .before .before in
-      let u = v .before .before in
-      let start = u .before .before .before .before .before in
-      finds-both (start .args .table .now) _ _ _ (node start) _ (u .undecided .result) (v .lowest .result)
-      (u .undecided .ensures) (v .before .if3 .left) (v .lowest .ensures) _ (put .put-in .ensures) _ (first .largest-below .ensures)
-      _ (c .before .leave-out .ensures) _ (c .largest-below2 .ensures)
+      let node = v .before .before .before .before in
+      let a = node .before .before .before .args in
+      finds-as (node .node-of .ensures) (a .table .now) _ _ _ _ _
+      (finds-both (a .table .now) _ _ _ (node .node-of .result) _ _ (v .lowest .result) (sym (ap undecided (node .node-of .ensures)))
+      (v .before .if3 .left) (v .lowest .ensures) _ (put .put-in .ensures) _ (first .largest-below .ensures)
+      _ (out .leave-out .ensures) _ (ahead .look-for-larger .ensures (c .if4 .taken)))
+
+  returns-5 : lts.Need-returns-5 (calls t) (Starts t) reads.Post
+  returns-5 c =
+      let out = c .before .before .before in
+      let first = out .before .before in
+      let put = first .before in
+      let v = put .before .before .before in
+      let node = v .before .before .before .before in
+      let a = node .before .before .before .args in
+      finds-as (node .node-of .ensures) (a .table .now) _ _ _ _ _
+      (finds-both (a .table .now) _ _ _ (node .node-of .result) _ _ (v .lowest .result) (sym (ap undecided (node .node-of .ensures)))
+      (v .before .if3 .left) (v .lowest .ensures) _ (put .put-in .ensures) _ (first .largest-below .ensures)
+      _ (out .leave-out .ensures) _ (c .largest-below2 .ensures))
 
 pub +largest-below-spec : {M : Type 1} → statement M
 +largest-below-spec = close μ λ t. lts.spec (calls t) (Starts t) reads.Post
     (λ c κs. search needs)
     (returns t)
     (λ c κs. search needs)
-    (returns-2 t)
     (λ c κs. search needs)
+    (returns-2 t)
     (λ c κs. search needs)
     (returns-3 t)
     (λ c κs. search needs)
@@ -117,5 +136,8 @@ pub +largest-below-spec : {M : Type 1} → statement M
     (λ c κs. search needs)
     (λ c κs. (put-falls (decides t (c .before .before .before)) _ _ _ (c .put-in .ensures), tt))
     (λ c κs. search needs)
-    (λ c κs. (out-falls (decides t (c .before .before .before .before .before)) _ (c .leave-out .ensures), tt))
+    (λ c κs. search needs)
     (returns-4 t)
+    (λ c κs. let out = c .before .before in
+    (out-falls (decides t (out .before .before .before .before .before .before)) _ (out .leave-out .ensures), tt))
+    (returns-5 t)

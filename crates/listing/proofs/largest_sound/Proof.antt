@@ -9,7 +9,7 @@ use Rattle.listing.proofs.largest_sound.Tie as tie
 returns : tie.Need-returns
 unfolding vertices
 returns c =
-    let l = c .before .before in
+    let l = c .before .before .before in
     let made = l .before .before .before .before .before in
     let all = made .before .before .before .before in
     largest-none _ _ (all .before .pre) _ (made .size-table .result) _ (all .below .ensures) (made .size-table .ensures)
@@ -18,7 +18,7 @@ returns c =
 returns-2 : tie.Need-returns-2
 unfolding vertices
 returns-2 c =
-    let l = c .before .before in
+    let l = c .before .before .before in
     let made = l .before .before .before .before .before in
     let all = made .before .before .before .before in
     largest-some _ _ (all .before .pre) _ (made .size-table .result) _ (all .below .ensures) (made .size-table .ensures)

@@ -11,11 +11,11 @@ use borrow.Fn.Kinds.{In}
 use borrow.Fn.PlainCycle.{Measures, is, falls, and}
 use Rattle.vertex_set.specs.Sets.{size}
 use Rattle.vertex_set.proofs.Booleans.{clash}
-use Rattle.vertex_set.proofs.lowest.Reads as lowest-reads
 use Rattle.vertex_set.proofs.single.Reads as single-reads
 use Rattle.listing.proofs.Colours.{outside}
-use Rattle.listing.proofs.Branches.{Leads, lowest-leads, beside-falls, without-falls, at-most-branch}
+use Rattle.listing.proofs.Branches.{Leads, leads, beside-falls, without-falls, at-most-branch}
 use Rattle.listing.proofs.bounds.all_if_in.Reads as all-if-in-reads
+use Rattle.listing.proofs.bounds.branch_vertex.Reads as branch-vertex-reads
 use Rattle.listing.proofs.bounds.is_bounded.Reads as is-bounded-reads
 use Rattle.listing.proofs.bounds.at_most.Reads as reads
 use Rattle.listing.proofs.bounds.at_most.Kinds as kinds
@@ -38,8 +38,8 @@ abbrev calls : ℕ → lts.Claims
 calls t = (
   is-bounded-reads.Asked,
   is-bounded-reads.Learnt,
-  lowest-reads.Asked,
-  lowest-reads.Learnt,
+  branch-vertex-reads.Asked,
+  branch-vertex-reads.Learnt,
   single-reads.Asked,
   single-reads.Learnt,
   all-if-in-reads.Asked,
@@ -50,13 +50,15 @@ calls t = (
 
 module _ (t : ℕ) where
   -- the vertex to try
-  leads : (c : lts.After-lowest (calls t) (Starts t) reads.Post)
-      → Leads t (c .before .before .before .before .before .args .left) (c .before .before .before .before .before .args .right) (c .lowest .result)
-  leads c =
+  tries : (c : lts.After-branch-vertex (calls t) (Starts t) reads.Post)
+      → Leads t (c .before .before .before .before .before .args .left) (c .before .before .before .before .before .args .right)
+      (c .branch-vertex .result)
+  tries c =
       let not-yet = c .before .before .before in
       let start = not-yet .before .before in
-      lowest-leads t (start .args .left) (start .args .right) (c .lowest .result) (start .pre .0)
-      (start .fits .left .fits) (start .fits .right .fits) (not-yet .before .is-bounded .ensures .1 (not-yet .if1 .left)) (c .lowest .ensures)
+      let some = not-yet .before .is-bounded .ensures .1 (not-yet .if1 .left) in
+      leads (start .args .left) (start .args .right) (start .fits .left .fits) (start .fits .right .fits) some
+      (c .branch-vertex .result) t (start .pre .0) (c .branch-vertex .ensures some)
 
   returns : lts.Need-returns (calls t) (Starts t) reads.Post
   returns c = λ _. c .before .is-bounded .ensures .0 (c .if1 .taken)
@@ -73,8 +75,8 @@ module _ (t : ℕ) where
       let one = c .before .before .before .before in
       let v = one .before in
       let a = v .before .before .before .before .before .args in (
-        beside-falls (leads v) _ (ap outside (one .single .ensures)) (getD (a .positive .now) (v .lowest .result) 0)
-            (getD (a .negative .now) (v .lowest .result) 0) (c .before .all-if-in .result),
+        beside-falls (tries v) _ (ap outside (one .single .ensures)) (getD (a .positive .now) (v .branch-vertex .result) 0)
+            (getD (a .negative .now) (v .branch-vertex .result) 0) (c .before .all-if-in .result),
         tt,
       )
 
@@ -84,15 +86,15 @@ module _ (t : ℕ) where
       let one = there .before .before .before .before in
       let v = one .before in
       let a = v .before .before .before .before .before .args in (
-        beside-falls (leads v) _ (ap outside (one .single .ensures)) (getD (a .negative .now) (v .lowest .result) 0)
-            (getD (a .positive .now) (v .lowest .result) 0) (there .all-if-in2 .result),
+        beside-falls (tries v) _ (ap outside (one .single .ensures)) (getD (a .negative .now) (v .branch-vertex .result) 0)
+            (getD (a .positive .now) (v .branch-vertex .result) 0) (there .all-if-in2 .result),
         tt,
       )
 
   rest-falls : lts.Need-at-most-requires-3 (calls t) (Starts t) reads.Post
   rest-falls c κs =
       let one = c .before .before .before .before .before .before .before .before .before .before in
-      (without-falls (leads (one .before)) _ (ap outside (one .single .ensures)), tt)
+      (without-falls (tries (one .before)) _ (ap outside (one .single .ensures)), tt)
 
   returns-6 : lts.Need-returns-6 (calls t) (Starts t) reads.Post
   returns-6 c = λ e.
@@ -103,7 +105,7 @@ module _ (t : ℕ) where
       let one = here .before .before .before in
       let v = one .before in
       let a = v .before .before .before .before .before .args in
-      at-most-branch (a .table .now) (a .positive .now) (a .negative .now) (a .left) (a .right) (a .room) (leads v)
+      at-most-branch (a .table .now) (a .positive .now) (a .negative .now) (a .left) (a .right) (a .room) (tries v)
       _ _ _ (ap outside (one .single .ensures)) (here .all-if-in .ensures) (there .all-if-in2 .ensures)
       (omega (arith, v .before .if3 .left)) (first .at-most .ensures (not-false _ (second .before .if4 .left)))
       (second .at-most2 .ensures (not-false _ (c .before .if5 .left))) (c .at-most3 .ensures e)
@@ -116,10 +118,10 @@ pub +at-most-spec : {M : Type 1} → statement M
     (λ c e. clash false e refl)
     (λ c κs. search needs)
     (λ c κs. search needs)
-    (λ c. record { fits = omega (arith, leads t (c .before) .small) })
-    (λ c. leads t (c .before) .small)
-    (λ c. record { fits = omega (arith, leads t (c .before .before) .small) })
-    (λ c. leads t (c .before .before) .small)
+    (λ c. record { fits = omega (arith, tries t (c .before) .small) })
+    (λ c. tries t (c .before) .small)
+    (λ c. record { fits = omega (arith, tries t (c .before .before) .small) })
+    (λ c. tries t (c .before .before) .small)
     (λ c κs. search needs)
     (λ c κs. search needs)
     (λ c. search needs)

@@ -4,7 +4,7 @@ use mathlib.Core.Path.{refl}
 use mathlib.Core.Bool.{true}
 use borrow.Author.Needs.{needs}
 use Rattle.vertex_set.proofs.Booleans.{clash}
-use Rattle.listing.proofs.Branches.{lowest-leads, at-most-none, at-most-table}
+use Rattle.listing.proofs.Branches.{lowest-among, leads, at-most-none, at-most-table}
 use Rattle.listing.proofs.bounds.is_bounded.Statement.{statement}
 use Rattle.listing.proofs.bounds.is_bounded.Tie as tie
 
@@ -18,17 +18,21 @@ returns c =
 small : tie.Need-element-copy-out-if2
 small c =
     let start = c .before .before in
-    lowest-leads _ (start .args .left) (start .args .right) (c .lowest .result) refl
-    (start .fits .left .fits) (start .fits .right .fits) (c .before .if1 .left) (c .lowest .ensures) .small
+    let a = start .args in
+    let here = lowest-among (a .left) (a .right) (start .fits .left .fits) (start .fits .right .fits) (c .before .if1 .left)
+    (c .lowest .result) _ (λ p m. m) (c .before .if1 .left) (c .lowest .ensures) in
+    leads (a .left) (a .right) (start .fits .left .fits) (start .fits .right .fits) (c .before .if1 .left) (c .lowest .result) _ refl here .small
 
 returns-2 : tie.Need-returns-2
 returns-2 c =
     let v = c .before .before in
     let start = v .before .before in
-    let a = start .args in (
+    let a = start .args in
+    let here = lowest-among (a .left) (a .right) (start .fits .left .fits) (start .fits .right .fits) (v .before .if1 .left)
+    (v .lowest .result) _ (λ p m. m) (v .before .if1 .left) (v .lowest .ensures) in (
       λ _. at-most-table (a .table .now) (a .positive .now) (a .negative .now) (a .left) (a .right) (a .room)
-          (lowest-leads _ (a .left) (a .right) (v .lowest .result) refl
-          (start .fits .left .fits) (start .fits .right .fits) (v .before .if1 .left) (v .lowest .ensures)) (c .if2 .taken),
+          (leads (a .left) (a .right) (start .fits .left .fits) (start .fits .right .fits) (v .before .if1 .left) (v .lowest .result) _ refl here)
+          (v .lowest .ensures) (c .if2 .taken),
       λ e. clash true refl e,
     )
 
