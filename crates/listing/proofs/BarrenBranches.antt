@@ -1,25 +1,22 @@
 -- Where a test finds that no group is below a node. Assumes nothing.
 use Prim.Native.Nat.{ℕ, _^_, _≤_, _<_}
 use native.Mathlib.Omega.{arith}
-use mathlib.Core.Path.{_≡_, refl, sym, ap, _∙_, subst}
+use mathlib.Core.Path.{_≡_, refl, ap, _∙_, subst}
 use mathlib.Core.Logic.{_⊎_, inl, inr}
-use mathlib.Core.Bool.{Bool, true, false}
+use mathlib.Core.Bool.{true, false}
 use borrow.Author.Tests.{not-true}
 use mathlib.Core.List.{List}
-use lib.Bits.{bitAnd}
 use lib.ListN.{getD}
-use Rattle.vertex_set.specs.Sets.{mem, Subset, size, lowest}
+use Rattle.vertex_set.specs.Sets.{mem, lowest}
 use Rattle.vertex_set.proofs.Booleans.{clash, cases}
-use Rattle.vertex_set.proofs.Membership.{mem-none, none-in, mem-past, meet-right}
-use Rattle.vertex_set.proofs.LowestVertex.{lowest-lt, lowest-in, rest}
+use Rattle.vertex_set.proofs.Membership.{mem-none, mem-past}
+use Rattle.vertex_set.proofs.LowestVertex.{rest}
 use Rattle.vertex_set.proofs.Sweeps.{Sweep, sweep-begin, sweep-here, sweep-step}
-use Rattle.signed_graph.specs.declared.SignedGraph.{SignedGraph}
-use Rattle.signed_graph.proofs.Soundness.{Sound, to-sound}
+use Rattle.signed_graph.proofs.Soundness.{to-sound}
 use Rattle.clique.proofs.Balance.{usable-64}
 use Rattle.listing.specs.declared.Node.{Node}
 use Rattle.listing.specs.declared.Fewest.{Fewest}
-use Rattle.listing.specs.Listing.{Item, Listed}
-use Rattle.listing.specs.Nodes.{undecided, short, putIn, leaveOut, withVertex, Stage, untouched, led, Valid, Sole, Below, Barren}
+use Rattle.listing.specs.Nodes.{undecided, short, putIn, leaveOut}
 use Rattle.listing.specs.Search.{Conflicts, Fewer, Unopposed, FewestConflicts, Narrowest, FindsBarren}
 use Rattle.listing.proofs.Nodes.{put-valid, out-valid}
 use Rattle.listing.proofs.Falling.{Decides}

@@ -8,7 +8,7 @@ use mathlib.Core.List.{List, [], _∷_, _++_}
 use mathlib.Core.Option.{Option, none, some}
 use lib.Dec.{leb, ltb}
 use lib.ListN.{getD}
-use borrow.Author.Tests.{ltb-true, ltb-false, lt-ltb, le-ltb, not-true}
+use borrow.Author.Tests.{ltb-true, ltb-false, lt-ltb, le-ltb}
 use Rattle.vertex_set.specs.Lists.{All}
 use Rattle.vertex_set.specs.Sets.{mem, Subset, size, lowest}
 use Rattle.vertex_set.proofs.Lists.{mem-all}
@@ -28,14 +28,13 @@ use Rattle.listing.specs.Listing.{Item, listing}
 use Rattle.listing.specs.Pages.{due}
 use Rattle.listing.specs.Calls.{dueGroups}
 use Rattle.listing.specs.Largest.{sizeOf, larger, largestOf, answerTo, largestBy, largestGroup, numberOf, largestNumberBy, largestNumber}
-use Rattle.listing.specs.Nodes.{chosen, undecided, rootOf, putIn, leaveOut, withVertex, Valid, Same, short, leafItem, groupAt}
+use Rattle.listing.specs.Nodes.{chosen, undecided, rootOf, putIn, leaveOut, withVertex, Valid, Same, leafItem, groupAt}
 use Rattle.listing.specs.Search.{graphOf, dueBelow, leafItems, FindsBarren}
 use Rattle.listing.specs.Bounds.{ForSound, Tabled, Outdone}
 use Rattle.listing.specs.Bests.{bestItem, better, bestOf, Finds}
 use Rattle.listing.proofs.Listing.{listing-sorted, listing-exact}
 use Rattle.listing.proofs.LargestOf.{largest-found}
 use Rattle.listing.proofs.Below.{of-below}
-use Rattle.listing.proofs.Prunes.{short-barren}
 use Rattle.listing.proofs.Leaves.{root-valid}
 use Rattle.listing.proofs.NodeBounds.{outdone-below}
 use Rattle.listing.proofs.Search.{leaf-there, leaf-other, due-listed, none-due, leaf-due, step-in, step-out, step-due, all-due}

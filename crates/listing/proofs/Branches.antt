@@ -76,7 +76,7 @@ beside o s row mask = bitAnd (bitAnd s (bitAnd row o)) mask
 beside-in : (o s row mask : ℕ) → Subset (beside o s row mask) s
 beside-in o s row mask p m = meet-left p s (bitAnd row o) (meet-left p (bitAnd s (bitAnd row o)) mask m)
 
--- here and there are all vertices where v may be on the left and on the right
+-- v is tried; here and there are all vertices where it may be on the left and on the right
 module _ (g : SignedGraph) (so : Sound g) (left right room v : ℕ) (small : v < 64) (pos : 0 < room) (o here there : ℕ)
     (is-o : o ≡ others v) (is-here : here ≡ allIf (mem v left)) (is-there : there ≡ allIf (mem v right)) where
   in-beside : (s row mask on p : ℕ) → mask ≡ allIf (mem v on) → p < 64 → mem v on ≡ true → mem p s ≡ true
@@ -86,7 +86,7 @@ module _ (g : SignedGraph) (so : Sound g) (left right room v : ℕ) (small : v <
       (meet-in p s (bitAnd row o) x (ap (λ (z : ℕ). mem p (bitAnd row z)) is-o ∙ y))
       (ap (mem p) (is ∙ ap allIf e) ∙ mem-all p l)
 
-  pub branch : AtMost g (beside o left (positives g v) here) (beside o right (negatives g v) here) (room - 1)
+  branch : AtMost g (beside o left (positives g v) here) (beside o right (negatives g v) here) (room - 1)
       → AtMost g (beside o left (negatives g v) there) (beside o right (positives g v) there) (room - 1)
       → AtMost g (bitAnd left o) (bitAnd right o) room → AtMost g left right room
   branch on-left on-right nowhere l r h in-l in-r =

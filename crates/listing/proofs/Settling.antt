@@ -5,15 +5,14 @@ use mathlib.Core.Bool.{Bool, true, false}
 use mathlib.Core.List.{List}
 use lib.ListN.{getD}
 use Rattle.vertex_set.specs.Sets.{mem, Subset, single, lowest}
-use Rattle.vertex_set.proofs.Booleans.{clash}
 use Rattle.vertex_set.proofs.Membership.{none-in, union-left}
-use Rattle.vertex_set.proofs.LowestVertex.{lowest-lt, rest, rest-lt}
+use Rattle.vertex_set.proofs.LowestVertex.{lowest-lt, rest}
 use Rattle.vertex_set.proofs.Sweeps.{Sweep, sweep-begin, sweep-here, sweep-step}
 use Rattle.signed_graph.specs.declared.SignedGraph.{SignedGraph}
 use Rattle.signed_graph.proofs.Soundness.{Sound, to-sound}
 use Rattle.listing.specs.declared.Node.{Node}
 use Rattle.listing.specs.Nodes.{undecided, putIn, putOpen, withVertex, Stage, untouched, led, Valid, Held, Same}
-use Rattle.listing.specs.Search.{InSound, Settles}
+use Rattle.listing.specs.Search.{Settles}
 use Rattle.listing.proofs.Nodes.{put-cases, put-valid}
 use Rattle.listing.proofs.Falling.{put-fewer}
 use Rattle.listing.proofs.Below.{below-put, put-below}

@@ -1,14 +1,13 @@
 -- The candidates that a vertex does not fit beside, and those that alone keep a vertex from joining. Assumes nothing.
 use Prim.Native.Nat.{ℕ, _-_, _^_, _<_}
-use mathlib.Core.Path.{_≡_, sym, ap, _∙_, subst}
-use mathlib.Core.Logic.{_≢_}
-use mathlib.Core.Bool.{Bool, true, false, not, _&&_}
+use mathlib.Core.Path.{_≡_, sym, ap, _∙_}
+use mathlib.Core.Bool.{true, false, not}
 use mathlib.Core.List.{List}
 use lib.Dec.{eqb}
 use lib.ListN.{getD}
 use lib.Bits.{bitAnd, bitOr}
-use borrow.Author.Tests.{eqb-true, not-true, not-false}
-use Rattle.vertex_set.specs.Sets.{mem, Subset, lowest}
+use borrow.Author.Tests.{eqb-true}
+use Rattle.vertex_set.specs.Sets.{mem, lowest}
 use Rattle.vertex_set.proofs.Booleans.{clash, refute, cases, and-intro}
 use Rattle.vertex_set.proofs.Membership.{none-in, mem-none, mem-minus, union-left, union-right, union-cases}
 use Rattle.vertex_set.proofs.LowestVertex.{rest, mem-rest}

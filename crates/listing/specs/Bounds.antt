@@ -55,12 +55,12 @@ AtMostFrom g v m =
 abbrev pub Tabled : SignedGraph → List ℕ → ℕ → Type 0
 Tabled g table s = (v : ℕ) → mem v s ≡ true → AtMostFrom g v (getD table v 0)
 
--- in every sound graph for which the table holds such bounds
+-- every balanced set with its sides within these has at most m vertices, where the table has bounds for those vertices
 abbrev pub AtMostBy : List ℕ → List ℕ → List ℕ → ℕ → ℕ → ℕ → Type 0
 AtMostBy table positive negative left right m =
     ForSound positive negative (λ g. Tabled g table (bitOr left right) → AtMost g left right m)
 
--- `above` has the vertices from v up, with bounds in the table, and at most m of them are in a balanced set
+-- `above` has the vertices from v up, the table has bounds for them, and every balanced set among them has at most m vertices
 pub record TabledFrom (g : SignedGraph) (table : List ℕ) (v above m : ℕ) : Type 0 where
   pub has : (p : ℕ) → v ≤ p → p < g .n → mem p above ≡ true
   pub tabled : Tabled g table above
@@ -72,17 +72,17 @@ SizeTable n positive negative table =
     let g : SignedGraph = graphOf n positive negative in
     sound g ≡ true → Tabled g table (vertices g)
 
--- all vertices, or none
+-- all vertices where a test passes, else none
 abbrev pub allIf : Bool → ℕ
 allIf true = 2 ^ 64 - 1
 allIf false = 0
 
 -- ---- what is below a node
 
--- these vertices and a balanced set with its sides within left and right are at most m
+-- the chosen vertices and those of a balanced set with its sides within left and right are at most m
 abbrev pub Outdone : SignedGraph → ℕ → ℕ → ℕ → ℕ → Type 0
 Outdone g chosen left right m = (size chosen ≤ m) × AtMost g left right (m - size chosen)
 
--- a side of a balanced set that is between what this one has and may get has fewer than k vertices
+-- the side cannot get k vertices: a balanced set whose left has what the side has, and beyond that only candidates, has fewer there
 abbrev pub Lacks : SignedGraph → ℕ → Side → Type 0
 Lacks g k side = (l r : ℕ) → Parts g l r → Between side l → size l < k

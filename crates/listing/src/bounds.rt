@@ -225,7 +225,7 @@ pub fn at_most<'a>(
     )
 }
 
-// A bound on the balanced sets among v and the vertices above it, `most` being one for those above, which are in the table.
+// A bound on the size of the balanced sets among v and the vertices above it, `most` being one for those above.
 fn bound_from<'a>(
     v: usize,
     above: u64,
@@ -260,7 +260,7 @@ fn bound_from<'a>(
     most + 1
 }
 
-// For each vertex of a graph of n, a bound on the balanced sets among the vertices from it up.
+// For each of n vertices, a bound on the size of the balanced sets among the vertices from it up.
 pub fn size_table<'a>(n: u64, positive: &'a [u64; 64], negative: &'a [u64; 64]) -> [u64; 64]
     requires { ⌜ n ≤ 64 ⌝ }
     ensures { λ r. ⌜ SizeTable n (now (positive .entry)) (now (negative .entry)) r ⌝ }

@@ -1,7 +1,7 @@
 -- `listing::list_below` meets its contract. The vertices still undecided fall in number at each call of itself. Assumes nothing.
 use Prim.Native.Nat.{ℕ, _<_}
 use native.Mathlib.Omega.{arith}
-use mathlib.Core.Path.{_≡_, sym, ap, _∙_, subst}
+use mathlib.Core.Path.{ap, _∙_}
 use borrow.Author.Needs.{needs}
 use borrow.Fn.Kinds.{In}
 use borrow.Fn.PlainCycle.{Measures, is, falls, and}
@@ -9,7 +9,7 @@ use lib.Bits.{bitOr}
 use Rattle.vertex_set.specs.Sets.{size}
 use Rattle.vertex_set.proofs.lowest.Reads as lowest-reads
 use Rattle.listing.specs.declared.Node.{Node}
-use Rattle.listing.specs.Nodes.{undecided, nodeOf}
+use Rattle.listing.specs.Nodes.{undecided}
 use Rattle.listing.proofs.Falling.{Decides, decides-lowest, put-falls, out-falls}
 use Rattle.listing.proofs.Search.{advances-as, lists-past, lists-barren, lists-leaf, lists-full, lists-in, lists-both}
 use Rattle.listing.proofs.is_past.Reads as is-past-reads
