@@ -17,17 +17,24 @@ pub fn run(seed: u64, amount: u64) -> Result<Tally, String> {
         let due: Vec<(u64, u64)> = all.into_iter().filter(|&g| meets(g, k)).collect();
         tally.add("groups", due.len() as u64);
         let graph = words(&graph);
-        one_graph(rng, &graph, k, &due)
+        compare(rng, &graph, k, &due, PAGE)
             .map_err(|fault| format!("{} k {k:x}: {fault}", hex_words(&graph)))
     })
 }
 
-fn one_graph(rng: &mut Rng, graph: &[u64], k: u64, due: &[(u64, u64)]) -> Result<(), String> {
+/// Holds the listing in one call, the listing by pages of so many bytes and the largest to the groups in listing order.
+pub fn compare(
+    rng: &mut Rng,
+    graph: &[u64],
+    k: u64,
+    due: &[(u64, u64)],
+    page: usize,
+) -> Result<(), String> {
     let records = records(due);
     if listed(rng, graph, k, records.len())? != records {
         return Err("one call lists other groups".to_string());
     }
-    if listed(rng, graph, k, PAGE)? != records {
+    if listed(rng, graph, k, page)? != records {
         return Err("pages list other groups".to_string());
     }
     let largest = interface::largest(rng, graph, k, &[7, 7])?;

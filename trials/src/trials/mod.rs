@@ -10,6 +10,7 @@ mod page_lists;
 mod program;
 mod reference;
 mod tally;
+mod traps;
 mod with_graphs;
 mod with_lists;
 mod with_pages;
@@ -34,10 +35,11 @@ const fn trial(
 }
 
 /// All trials; the longest come first, so that two threads share the work evenly.
-pub const TRIALS: [Trial; 18] = [
+pub const TRIALS: [Trial; 19] = [
     trial("program", 6_000, program::run),
     trial("page_lists", 30_000, page_lists::run),
     trial("many_groups", 60, many_groups::run),
+    trial("traps", 5, traps::run),
     trial("list_page", 100_000, with_pages::list_page),
     trial("largest", 40_000, with_pages::largest),
     trial("reference", 3_000, reference::run),
