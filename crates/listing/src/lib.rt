@@ -235,13 +235,6 @@ fn is_past(from: Bookmark, chosen: u64, v: usize) -> bool
     }
 }
 
-// The vertices chosen so far.
-fn chosen(at: Node) -> u64
-    ensures { λ r. ⌜ r ≡ nodes.chosen at ⌝ }
-{
-    at.left.chosen | at.right.chosen
-}
-
 // The vertices still undecided.
 fn undecided(at: Node) -> u64
     ensures { λ r. ⌜ r ≡ nodes.undecided at ⌝ }
