@@ -92,8 +92,8 @@ struct Best {
     right: u64,
 }
 
-// Vertices that fit on a side, and vertices that fit on the other. Of the latter two fields nothing is promised: they have those
-// that do not fit beside at most one candidate, as a hint where to look.
+// Vertices that fit on a side, and vertices that fit on the other. Of the last two fields nothing is promised: they have those that
+// fit beside all candidates but one at most, as a hint where to look.
 struct Fitting {
     near: u64,
     far: u64,
