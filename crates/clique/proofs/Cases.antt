@@ -8,11 +8,11 @@ use Rattle.vertex_set.specs.Ranges as R
 use Rattle.vertex_set.specs.Sets as S
 use Rattle.signed_graph.specs.Graphs.{edgeless, vertices}
 use Rattle.signed_graph.specs.Samples.{triangle, chain, sampleA}
-use Rattle.signed_graph.specs.Soundness.{sound, whole, loopless, symmetric, confined, unambiguous}
+use Rattle.signed_graph.specs.Soundness.{sound, hasAllRows, loopless, symmetric, confined, unambiguous}
 use Rattle.clique.specs.declared.Verdict.the-variants.{MissingEdge, Unbalanced, TooSmall, Extensible}
 use Rattle.clique.specs.Balance.{balanced, allAgree, left, right}
-use Rattle.clique.specs.Groups.{floor, extension, isGroup}
-use Rattle.clique.specs.Order.{choices, subsets, groups}
+use Rattle.clique.specs.Groups.{floor, extension, isGroup, groups}
+use Rattle.vertex_set.specs.Order.{choices, subsets}
 use Rattle.clique.specs.Verdicts.{verdict, firstOutside, missingFirst, missingSecond, oddFirst, oddSecond, oddThird}
 
 -- the set of the vertices of a list
@@ -27,7 +27,7 @@ pub record Sound : Type 0 where
   pub sound-A : sound sampleA ≡ true
 
 pub samples-sound : Sound
-unfolding sound whole loopless symmetric confined unambiguous R.all S.mem
+unfolding sound hasAllRows loopless symmetric confined unambiguous R.all S.mem
 samples-sound = record { sound-triangle = refl; sound-chain = refl; sound-A = refl }
 
 pub record Groups : Type 0 where

@@ -17,11 +17,12 @@ use Rattle.vertex_set.proofs.Membership.{mem-ext, lt-of-members}
 use Rattle.vertex_set.proofs.Collections.{insert-in, insert-cases, insert-keeps}
 use Rattle.signed_graph.specs.declared.SignedGraph.{SignedGraph}
 use Rattle.signed_graph.proofs.Soundness.{Sound}
+use Rattle.signed_graph.specs.Thresholds.{Threshold}
 use Rattle.clique.specs.Balance.{Balanced, balanced, left, right}
-use Rattle.clique.specs.Groups.{floor, Group, extension, isGroup}
-use Rattle.clique.specs.Order.{difference, precedes, subsets, groups}
+use Rattle.clique.specs.Groups.{floor, Group, extension, isGroup, groups}
+use Rattle.vertex_set.specs.Order.{difference, precedes, subsets}
 use Rattle.clique.proofs.Balance.{usable-lt, usable-64, balanced-words, words-balanced, balanced-sides, is-left, is-right, hereditary}
-use Rattle.clique.proofs.Order.{agree-below, differ-at, subsets-sorted, subsets-all}
+use Rattle.vertex_set.proofs.Order.{agree-below, differ-at, subsets-sorted, subsets-all}
 
 -- sides that are large enough have k vertices each
 pub floor-least : (k l r : ℕ) → floor k l r ≡ true → (k ≤ l) × (k ≤ r)
@@ -70,7 +71,7 @@ module _ (g : SignedGraph) (so : Sound g) where
   unfolding extension
   extension-found s = found (λ p. not (mem p s) && balanced g (insert p s)) (g .n) 0
 
-  pub none-extends : (s : ℕ) → extension g s ≡ g .n → (p : ℕ) → mem p s ≡ false → Balanced g (insert p s) → ⊥
+  none-extends : (s : ℕ) → extension g s ≡ g .n → (p : ℕ) → mem p s ≡ false → Balanced g (insert p s) → ⊥
   none-extends s e p out b =
       let l : p < g .n = usable-lt g so (insert p s) (b .usable) p (insert-in p s) in
       clash (not (mem p s) && balanced g (insert p s))
@@ -90,7 +91,7 @@ module _ (g : SignedGraph) (so : Sound g) where
 
   -- ---- the test says what the words say
 
-  module _ (k s : ℕ) where
+  module _ (k : Threshold) (s : ℕ) where
     abbrev c1 : Bool
     c1 = ltb 0 s
 
@@ -133,11 +134,11 @@ module _ (g : SignedGraph) (so : Sound g) where
 
   -- ---- the list of groups
 
-  pub groups-sorted : (k : ℕ) → Sorted precedes (groups g k)
+  pub groups-sorted : (k : Threshold) → Sorted precedes (groups g k)
   unfolding groups
   groups-sorted k = sorted-select precedes (isGroup g k) (subsets (g .n)) (subsets-sorted (g .n) (so .small))
 
-  pub groups-exact : (k s : ℕ) → List·Memᴰ s (groups g k) ↔ Group g k s
+  pub groups-exact : (k : Threshold) (s : ℕ) → List·Memᴰ s (groups g k) ↔ Group g k s
   unfolding groups
   groups-exact k s = (
     λ m. group-words k s (selected (isGroup g k) s (subsets (g .n)) m),

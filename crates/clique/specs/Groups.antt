@@ -3,18 +3,29 @@ use Prim.Native.Nat.{ℕ, _<_}
 use mathlib.Core.Path.{_≡_}
 use mathlib.Core.Bool.{Bool, true, not, _&&_}
 use lib.Dec.{leb, ltb, eqb}
+use mathlib.Core.List.{List}
+use Rattle.vertex_set.specs.Lists.{select}
+use Rattle.vertex_set.specs.Order.{subsets}
 use Rattle.vertex_set.specs.Ranges.{seek}
 use Rattle.vertex_set.specs.Sets.{mem, Subset, insert, size}
 use Rattle.signed_graph.specs.declared.SignedGraph.{SignedGraph}
+use Rattle.signed_graph.specs.Thresholds.{Threshold}
 use Rattle.clique.specs.Balance.{Balanced, Sides, balanced, left, right}
 
 -- the sizes that the left and the right side of a group for k may have: each at least k
-unfoldable pub floor : ℕ → ℕ → ℕ → Bool
+unfoldable pub floor : Threshold → ℕ → ℕ → Bool
 floor k l r = leb k l && leb k r
 
+-- the sets that may be groups: those that are not empty; and the test
+abbrev pub NonEmpty : ℕ → Type 0
+NonEmpty s = 0 < s
+
+abbrev pub nonEmpty : ℕ → Bool
+nonEmpty s = ltb 0 s
+
 -- s is a group for k: a balanced set, not empty, each side large enough, that no larger balanced set contains
-pub record Group (g : SignedGraph) (k s : ℕ) : Type 0 where
-  pub nonempty : 0 < s
+pub record Group (g : SignedGraph) (k : Threshold) (s : ℕ) : Type 0 where
+  pub nonempty : NonEmpty s
   pub balanced : Balanced g s
   pub left-side : ℕ
   pub right-side : ℕ
@@ -27,5 +38,9 @@ unfoldable pub extension : SignedGraph → ℕ → ℕ
 extension g s = seek (g .n) 0 (λ p. not (mem p s) && balanced g (insert p s))
 
 -- s is a group for k, by single vertices
-unfoldable pub isGroup : SignedGraph → ℕ → ℕ → Bool
-isGroup g k s = ltb 0 s && balanced g s && floor k (size (left g s)) (size (right g s)) && eqb (extension g s) (g .n)
+unfoldable pub isGroup : SignedGraph → Threshold → ℕ → Bool
+isGroup g k s = nonEmpty s && balanced g s && floor k (size (left g s)) (size (right g s)) && eqb (extension g s) (g .n)
+
+-- the groups for k, in listing order
+unfoldable pub groups : SignedGraph → Threshold → List ℕ
+groups g k = select (isGroup g k) (subsets (g .n))

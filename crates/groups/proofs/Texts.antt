@@ -1,40 +1,69 @@
 -- The text of a page: what the lines of its records come to, and how long it is. Assumes nothing.
-use Prim.Native.Nat.{ℕ, zero, suc, _+_, _*_, _/_, _≤_, _<_}
+use Prim.Native.Nat.{ℕ, zero, suc, _+_, _-_, _*_, _/_, _^_, _≤_, _<_}
 use native.Mathlib.Omega.{arith}
 use mathlib.Core.Path.{_≡_, refl, sym, ap, ap₂, _∙_, subst}
 use mathlib.Core.List.{List, [], _∷_, _++_}
-use lib.ListN.{length, take, drop, length-append}
+use lib.ListN.{length, take, drop, length-append, length-take, length-drop}
 use lib.Seq.{take-at, drop-at, drop-drop}
 use Rattle.vertex_set.specs.Lists.{All}
 use Rattle.vertex_set.specs.Ranges.{gather}
+use Rattle.vertex_set.proofs.Ranges.{gather-more}
 use Rattle.vertex_set.proofs.Gathering.{gather-cong}
+use Rattle.words.specs.Words.{wordBytes}
+use Rattle.words.proofs.Words.{value-bytes}
 use Rattle.signed_graph.specs.declared.SignedGraph.{SignedGraph}
 use Rattle.signed_graph.specs.declared.Check.{Check}
 use Rattle.signed_graph.specs.declared.Check.the-variants.{Accepted}
 use Rattle.signed_graph.specs.Calls.{checkOf}
 use Rattle.signed_graph.proofs.Soundness.{to-sound}
 use Rattle.signed_graph.proofs.Calls.{accepted-sound}
-use Rattle.listing.specs.declared.Bookmark.{Bookmark}
-use Rattle.listing.specs.Listing.{Item, listing}
-use Rattle.listing.specs.Records.{recordOf, recordAt}
-use Rattle.listing.specs.Pages.{records}
-use Rattle.listing.specs.Calls.{setOf, dueGroups, pageBy, pageOf, bytesBy, pageBytes}
-use Rattle.listing.proofs.Records.{record-wide, record-there}
-use Rattle.listing.proofs.Pages.{paged}
-use Rattle.listing.proofs.Listing.{listing-sorted}
-use Rattle.listing.proofs.Counts.{Narrow, due-sides}
-use Rattle.report.specs.Lines.{groupLine, lineText}
+use Rattle.pages.specs.declared.Bookmark.{Bookmark}
+use Rattle.clique.specs.Listing.{Item, listing}
+use Rattle.group_pages.specs.Records.{sidesRecord, recordOf, recordAt}
+use Rattle.pages.specs.Pages.{records}
+use Rattle.clique.specs.Listing.{itemSet}
+use Rattle.pages.specs.Pages.{pageBy, bytesBy}
+use Rattle.group_pages.specs.Calls.{dueGroups, pageOf, pageBytes}
+use Rattle.group_pages.proofs.Records.{record-wide, record-there}
+use Rattle.pages.proofs.Pages.{paged}
+use Rattle.clique.proofs.Listing.{listing-sorted}
+use Rattle.group_pages.proofs.Counts.{Narrow, due-sides}
+use Rattle.report.specs.declared.Line.{Line}
+use Rattle.report.specs.declared.Line.the-variants.{Group}
+use Rattle.report.specs.Lines.{groupLine, lineText, longestLine}
 use Rattle.report.proofs.Words.{gather-short, line-short}
 use Rattle.groups.specs.Answers.{lineOfRecord, recordsText, groupsText}
-use Rattle.groups.proofs.Words.{record-reads}
+use Rattle.group_pages.specs.Records.{recordWidth}
+use Rattle.groups.specs.Sizes.{pageRecords, pageRoom}
+
+-- what is written as a record reads back as the line of its sides
+record-reads : (l r : ℕ) → l < 2 ^ 64 → r < 2 ^ 64 → lineOfRecord (sidesRecord l r) ≡ Group l r
+unfolding sidesRecord wordBytes
+record-reads l r hl hr = ap₂ Group (value-bytes 8 l (omega arith)) (value-bytes 8 r (omega arith))
 
 -- the line of record i
 abbrev pub lineAt : List ℕ → ℕ → List ℕ
 lineAt bytes i = lineText (lineOfRecord (recordAt bytes i))
 
-pub records-short : (bytes : List ℕ) → length (recordsText bytes) ≤ length bytes / 16 * 394
+pub records-short : (bytes : List ℕ) → length (recordsText bytes) ≤ length bytes / recordWidth * longestLine
 unfolding recordsText
-records-short bytes = gather-short 394 (lineAt bytes) (length bytes / 16) 0 (λ i _. line-short (lineOfRecord (recordAt bytes i)))
+records-short bytes = gather-short longestLine (lineAt bytes) (length bytes / recordWidth) 0 (λ i _. line-short (lineOfRecord (recordAt bytes i)))
+
+pub record-long : (bytes : List ℕ) (i : ℕ) → i < length bytes / recordWidth → recordWidth ≤ length (recordAt bytes i)
+record-long bytes i h =
+    omega (
+      arith,
+      ap length (record-there bytes i h),
+      length-take recordWidth (drop (recordWidth * i) bytes),
+      length-drop (recordWidth * i) bytes,
+    )
+
+-- the line of record i comes next
+pub line-next : (records bytes : List ℕ) (line : Line) (n i : ℕ) → i < n → bytes ≡ recordAt records i → line ≡ lineOfRecord bytes
+    → gather (n - i) i (lineAt records) ≡ lineText line ++ gather (n - (i + 1)) (i + 1) (lineAt records)
+line-next records bytes line n i h b l =
+    gather-more (lineAt records) n i h
+    ∙ ap (λ (x : Line). lineText x ++ gather (n - (i + 1)) (i + 1) (lineAt records)) (sym (l ∙ ap lineOfRecord b))
 
 -- ---- the records of groups
 
@@ -48,18 +77,18 @@ module _ (x : Item) (rest : List ℕ) where
   abbrev both : List ℕ
   both = recordOf x ++ rest
 
-  one-more : length both / 16 ≡ suc (length rest / 16)
+  one-more : length both / recordWidth ≡ suc (length rest / recordWidth)
   one-more = omega (arith, length-append (recordOf x) rest, record-wide x)
 
   record-first : recordAt both 0 ≡ recordOf x
-  record-first = record-there both 0 (omega (arith, one-more)) ∙ take-at (recordOf x) rest 16 (record-wide x)
+  record-first = record-there both 0 (omega (arith, one-more)) ∙ take-at (recordOf x) rest recordWidth (record-wide x)
 
-  record-next : (i : ℕ) → i < length rest / 16 → recordAt both (suc i) ≡ recordAt rest i
+  record-next : (i : ℕ) → i < length rest / recordWidth → recordAt both (suc i) ≡ recordAt rest i
   record-next i h =
-      let e : 16 * suc i ≡ 16 + 16 * i = omega arith in
+      let e : recordWidth * suc i ≡ recordWidth + recordWidth * i = omega arith in
       record-there both (suc i) (omega (arith, one-more))
-      ∙ ap (λ (j : ℕ). take 16 (drop j both)) e
-      ∙ ap (take 16) (sym (drop-drop (16 * i) 16 both) ∙ ap (drop (16 * i)) (drop-at (recordOf x) rest 16 (record-wide x)))
+      ∙ ap (λ (j : ℕ). take recordWidth (drop j both)) e
+      ∙ ap (take recordWidth) (sym (drop-drop (recordWidth * i) recordWidth both) ∙ ap (drop (recordWidth * i)) (drop-at (recordOf x) rest recordWidth (record-wide x)))
       ∙ sym (record-there rest i h)
 
   text-first : Narrow x → recordsText both ≡ groupLine (x .left) (x .right) ++ recordsText rest
@@ -68,8 +97,8 @@ module _ (x : Item) (rest : List ℕ) where
       ap (λ (d : ℕ). gather d 0 (lineAt both)) one-more
       ∙ ap₂ (λ (a b : List ℕ). a ++ b)
       (ap (λ (b : List ℕ). lineText (lineOfRecord b)) record-first ∙ ap lineText (record-reads (x .left) (x .right) (h .0) (h .1)))
-      (gather-shift (lineAt both) (length rest / 16) 0
-      ∙ gather-cong (λ j. lineAt both (suc j)) (lineAt rest) (length rest / 16) 0
+      (gather-shift (lineAt both) (length rest / recordWidth) 0
+      ∙ gather-cong (λ j. lineAt both (suc j)) (lineAt rest) (length rest / recordWidth) 0
       (λ j _ l. ap (λ (b : List ℕ). lineText (lineOfRecord b)) (record-next j (omega arith))))
 
 -- the lines of the records of groups are those of the groups
@@ -86,15 +115,15 @@ all-take P (suc n) (x ∷ l) h = (h .0, all-take P n l (h .1))
 
 -- ---- pages
 
-module _ (g : SignedGraph) (k : ℕ) (m : Bookmark) (buffer : List ℕ) (long : length buffer ≡ 1024) (a : checkOf g k ≡ Accepted) where
-  page-records : take (16 * pageOf g k m 1024 .count) (pageBytes g k m buffer) ≡ records recordOf (take 64 (dueGroups g k m))
+module _ (g : SignedGraph) (k : ℕ) (m : Bookmark) (buffer : List ℕ) (long : length buffer ≡ pageRoom) (a : checkOf g k ≡ Accepted) where
+  page-records : take (recordWidth * pageOf g k m pageRoom .count) (pageBytes g k m buffer) ≡ records recordOf (take pageRecords (dueGroups g k m))
   page-records =
       let ds : List Item = dueGroups g k m in
-      let p = paged setOf recordOf 16 (listing g k) record-wide (listing-sorted g (to-sound g (accepted-sound g k a)) k) m buffer in
-      subst (λ (c : Check). take (16 * pageBy c m 1024 ds .count) (bytesBy c ds buffer) ≡ records recordOf (take 64 ds)) (sym a)
-      (subst (λ (n : ℕ). take (16 * pageBy Accepted m n ds .count) (bytesBy Accepted ds buffer) ≡ records recordOf (take (n / 16) ds))
+      let p = paged itemSet recordOf recordWidth (listing g k) record-wide (listing-sorted g (to-sound g (accepted-sound g k a)) k) m buffer in
+      subst (λ (c : Check). take (recordWidth * pageBy itemSet recordWidth c m pageRoom ds .count) (bytesBy recordOf recordWidth c ds buffer) ≡ records recordOf (take pageRecords ds)) (sym a)
+      (subst (λ (n : ℕ). take (recordWidth * pageBy itemSet recordWidth Accepted m n ds .count) (bytesBy recordOf recordWidth Accepted ds buffer) ≡ records recordOf (take (n / recordWidth) ds))
       long (p .wrote))
 
-  pub page-text : recordsText (take (16 * pageOf g k m 1024 .count) (pageBytes g k m buffer)) ≡ groupsText (take 64 (dueGroups g k m))
+  pub page-text : recordsText (take (recordWidth * pageOf g k m pageRoom .count) (pageBytes g k m buffer)) ≡ groupsText (take pageRecords (dueGroups g k m))
   page-text =
-      ap recordsText page-records ∙ records-groups (take 64 (dueGroups g k m)) (all-take Narrow 64 (dueGroups g k m) (due-sides g k m))
+      ap recordsText page-records ∙ records-groups (take pageRecords (dueGroups g k m)) (all-take Narrow pageRecords (dueGroups g k m) (due-sides g k m))

@@ -2,10 +2,9 @@
 // then the edge list of the graph.
 use edge_list::Fault;
 use edge_list::Outcome;
-use listing::Bookmark;
-use listing::End;
-use listing::Finding;
-use listing::Page;
+use pages::Bookmark;
+use pages::End;
+use pages::Page;
 use report::Line;
 use signed_graph::Check;
 use signed_graph::Refusal;
@@ -16,18 +15,22 @@ ghost use lib.ListN.{length, take};
 ghost use Rattle.vertex_set.specs.Buffers.{overwritten};
 ghost use Rattle.signed_graph.specs.declared.Check.the-variants.{Accepted};
 ghost use Rattle.signed_graph.specs.Calls.{checkOf};
-ghost use Rattle.listing.specs.Listing.{listing as listed};
-ghost use Rattle.listing.specs.Calls.{dueGroups, pageOf};
-ghost use Rattle.listing.specs.Largest.{largestGroup};
-ghost use Rattle.report.specs.Lines.{lineText};
-ghost use Rattle.groups.specs.Words.{valueOf};
+ghost use Rattle.clique.specs.Listing.{listing as listed};
+ghost use Rattle.group_pages.specs.Calls.{dueGroups, pageOf};
+ghost use Rattle.largest.specs.Largest.{largestGroup};
+ghost use Rattle.report.specs.Lines.{lineText, longestLine};
 ghost use Rattle.groups.specs.Answers.{lineOfRecord, lineOfLargest, lineOfFault, lineOfRefusal, recordsText, groupsText};
+ghost use Rattle.group_pages.specs.Records.{recordWidth};
+ghost use Rattle.groups.specs.Sizes.{pageRecords, pageRoom};
 
-// A page has 64 records.
-const PAGE: usize = 1024;
+// The records for which a page has room.
+const PAGE_RECORDS: usize = 64;
 
-// Their lines are no longer.
-const PAGE_TEXT: usize = 25216;
+// The bytes of a page's records.
+const PAGE: usize = group_pages::RECORD_BYTES * PAGE_RECORDS;
+
+// Enough bytes for the lines of a page.
+const PAGE_TEXT: usize = PAGE_RECORDS * report::LONGEST;
 
 // A page, and how many bytes its lines take.
 struct PageText {
@@ -37,7 +40,7 @@ struct PageText {
 
 // Writes the text of a line, and returns its length.
 fn put_line(line: Line, text: &mut [u8]) -> usize
-    requires { ⌜ 394 ≤ length (now text) ⌝ }
+    requires { ⌜ longestLine ≤ length (now text) ⌝ }
     ensures length { λ r. ⌜ r ≡ length (lineText line) ⌝ }
     ensures bytes { λ r. ⌜ now (text .exit) ≡ overwritten (lineText line) (now (text .entry)) ⌝ }
 {
@@ -50,28 +53,14 @@ fn print(line: Line) {
     io::write_all(1, &text[..end]);
 }
 
-// The number in the first eight bytes, low byte first.
-fn word_of(bytes: &[u8]) -> u64
-    requires { ⌜ 8 ≤ length (now bytes) ⌝ }
-    ensures { λ r. ⌜ r ≡ valueOf (take 8 (now (bytes .entry))) ⌝ }
-{
-    let mut value: u64 = 0;
-    let mut i: usize = 8;
-    while 0 < i {
-        i -= 1;
-        value = 256 * value + bytes[i] as u64;
-    }
-    value
-}
-
 // The line of a record.
 fn record_line(bytes: &[u8]) -> Line
-    requires { ⌜ 16 ≤ length (now bytes) ⌝ }
+    requires { ⌜ recordWidth ≤ length (now bytes) ⌝ }
     ensures { λ r. ⌜ r ≡ lineOfRecord (now (bytes .entry)) ⌝ }
 {
-    let left = word_of(bytes);
+    let left = words::read_word(bytes);
     let middle: usize = 8;
-    let right = word_of(&bytes[middle..]);
+    let right = words::read_word(&bytes[middle..]);
     Line::Group(left, right)
 }
 
@@ -79,12 +68,11 @@ fn record_line(bytes: &[u8]) -> Line
 fn largest_line(g: SignedGraph, k: u64) -> Line
     ensures { λ r. ⌜ r ≡ lineOfLargest (largestGroup g k) ⌝ }
 {
-    let largest = listing::largest(g, k);
+    let largest = largest::largest(g, k);
     let outcome = largest.outcome;
     match outcome {
-        Finding::Found => Line::Largest(largest.left, largest.right),
-        Finding::NoGroup => Line::NoLargest,
-        Finding::Refused(_) => Line::NoLargest,
+        Check::Accepted => Line::Largest(largest.left, largest.right),
+        Check::Refused(_) => Line::NoLargest,
     }
 }
 
@@ -104,15 +92,15 @@ fn refusal_line(why: Refusal) -> Line
 
 // Writes the lines of records, and returns how many bytes they take.
 fn put_records(records: &[u8], text: &mut [u8]) -> usize
-    requires { ⌜ 394 * (length (now records) / 16) ≤ length (now text) ⌝ }
+    requires { ⌜ longestLine * (length (now records) / recordWidth) ≤ length (now text) ⌝ }
     ensures length { λ r. ⌜ r ≡ length (recordsText (now (records .entry))) ⌝ }
     ensures bytes { λ r. ⌜ now (text .exit) ≡ overwritten (recordsText (now (records .entry))) (now (text .entry)) ⌝ }
 {
-    let count = (records.len() / 16) as u64;
+    let count = (records.len() / group_pages::RECORD_BYTES) as u64;
     let mut i: u64 = 0;
     let mut at: usize = 0;
     while i < count {
-        let line = record_line(listing::record_at(records, i));
+        let line = record_line(group_pages::record_at(records, i));
         let written = put_line(line, &mut text[at..]);
         at += written;
         i += 1;
@@ -123,13 +111,13 @@ fn put_records(records: &[u8], text: &mut [u8]) -> usize
 // Writes the lines of the groups of a page.
 fn put_page(g: SignedGraph, k: u64, from: Bookmark, text: &mut [u8; PAGE_TEXT]) -> PageText
     requires { ⌜ checkOf g k ≡ Accepted ⌝ }
-    ensures page { λ r. ⌜ r .page ≡ pageOf g k from 1024 ⌝ }
-    ensures length { λ r. ⌜ r .length ≡ length (groupsText (take 64 (dueGroups g k from))) ⌝ }
-    ensures bytes { λ r. ⌜ take (r .length) (now (text .exit)) ≡ groupsText (take 64 (dueGroups g k from)) ⌝ }
+    ensures page { λ r. ⌜ r .page ≡ pageOf g k from pageRoom ⌝ }
+    ensures length { λ r. ⌜ r .length ≡ length (groupsText (take pageRecords (dueGroups g k from))) ⌝ }
+    ensures bytes { λ r. ⌜ take (r .length) (now (text .exit)) ≡ groupsText (take pageRecords (dueGroups g k from)) ⌝ }
 {
     let mut space = [0u8; PAGE];
     let page = listing::list_page(g, k, from, &mut space);
-    let end = 16 * page.count;
+    let end = group_pages::RECORD_BYTES * page.count;
     let length = put_records(&space[..end], text);
     PageText { page, length }
 }
@@ -137,7 +125,7 @@ fn put_page(g: SignedGraph, k: u64, from: Bookmark, text: &mut [u8; PAGE_TEXT]) 
 // Prints the groups of a page, and returns the page.
 fn print_page(g: SignedGraph, k: u64, from: Bookmark) -> Page
     requires { ⌜ checkOf g k ≡ Accepted ⌝ }
-    ensures { λ r. ⌜ r ≡ pageOf g k from 1024 ⌝ }
+    ensures { λ r. ⌜ r ≡ pageOf g k from pageRoom ⌝ }
 {
     let mut text = [0u8; PAGE_TEXT];
     let put = put_page(g, k, from, &mut text);

@@ -13,43 +13,49 @@ use Rattle.vertex_set.specs.Ranges as R
 use Rattle.vertex_set.specs.Sets as S
 use Rattle.signed_graph.specs.declared.SignedGraph.{SignedGraph}
 use Rattle.signed_graph.specs.declared.Check.{Check}
-use Rattle.signed_graph.specs.declared.Check.the-variants.{Accepted}
+use Rattle.signed_graph.specs.declared.Check.the-variants.{Accepted, Refused}
 use Rattle.signed_graph.specs.Graphs.{edgeless, edgeCount}
 use Rattle.signed_graph.specs.Samples.{triangle, chain, sampleA}
-use Rattle.signed_graph.specs.Soundness.{sound, whole, loopless, symmetric, confined, unambiguous}
-use Rattle.signed_graph.specs.Calls.{checkBy, checkOf}
+use Rattle.signed_graph.specs.Soundness.{sound, hasAllRows, loopless, symmetric, confined, unambiguous}
+use Rattle.signed_graph.specs.Calls.{checkBy, checkOf, checkNumber}
 use Rattle.clique.specs.declared.Classified.the-variants.{As}
 use Rattle.clique.specs.declared.Verdict.the-variants.{MissingEdge, Unbalanced, TooSmall, Extensible}
 use Rattle.clique.specs.Balance.{left, right}
-use Rattle.clique.specs.Groups.{isGroup}
-use Rattle.clique.specs.Order.{difference, precedes, choices, subsets, groups}
+use Rattle.clique.specs.Groups.{isGroup, groups}
+use Rattle.vertex_set.specs.Order.{difference, precedes, choices, subsets}
 use Rattle.clique.specs.Verdicts as verdicts
 use Rattle.clique.specs.Verdicts.{classified}
 use Rattle.clique.proofs.Cases.{set, samples-sound, cases-groups, cases-verdicts}
 use Rattle.reduction.specs.Reductions.{reduced}
 use Rattle.reduction.proofs.Cases as reduction
-use Rattle.edge_list.proofs.Cases.{GraphA, graph-A}
-use Rattle.listing.specs.declared.Bookmark.the-variants.{Start, After}
-use Rattle.listing.specs.declared.End.the-variants.{Finished}
-use Rattle.listing.specs.declared.Finding.the-variants.{Found, NoGroup}
-use Rattle.listing.specs.declared.LargestGroup.{LargestGroup}
-use Rattle.listing.specs.Listing.{Item, itemOf, listing}
-use Rattle.listing.specs.Records.{bytesOf, sidesRecord}
-use Rattle.listing.specs.Pages.{due, nextMark, records, answer, filled}
-use Rattle.listing.specs.Calls.{setOf, dueGroups, pageBy, bytesBy, pageOf, pageBytes}
-use Rattle.listing.specs.Largest.{largestOf, largestBy, largestGroup, numberOf}
+use Rattle.edge_list.proofs.Cases.{GraphA, graph-A, listA}
+use Rattle.canonical.specs.Canonical.{canonical}
+use Rattle.canonical.proofs.Cases.{writes-A}
+use Rattle.pages.specs.declared.Bookmark.the-variants.{Start, After}
+use Rattle.pages.specs.declared.End.the-variants.{Finished}
+use Rattle.signed_graph.specs.declared.Refusal.the-variants.{NoGroup}
+use Rattle.largest.specs.declared.LargestGroup.{LargestGroup}
+use Rattle.clique.specs.Listing.{Item, itemOf, listing}
+use Rattle.words.specs.Words.{wordBytes}
+use Rattle.group_pages.specs.Records.{recordWidth, sidesRecord, recordOf}
+use Rattle.pages.specs.Pages.{due, nextMark, records, answer, filled}
+use Rattle.clique.specs.Listing.{itemSet}
+use Rattle.pages.specs.Pages.{pageBy, bytesBy}
+use Rattle.group_pages.specs.Calls.{dueGroups, pageOf, pageBytes}
+use Rattle.largest.specs.Largest.{largestOf, largestGroupBy, largestGroup}
 
 -- a group by its left and its right vertices
 abbrev group : List ℕ → List ℕ → Item
 group l r = record { vertices = set (l ++ r); left = set l; right = set r }
 
 pub record Cases : Type 0 where
-  -- the edge list of A decodes to A
+  -- the edge list of A decodes to A, and is its canonical form
   pub A : GraphA
+  pub A-written : canonical sampleA ≡ listA
   -- no vertices: no group, the largest call returns 12, and the first page is the last
   pub T1 : (k : ℕ) → listing (edgeless 0) k ≡ []
-  pub T1-largest : (k : ℕ) → k ≤ 32 → largestGroup (edgeless 0) k ≡ record { outcome = NoGroup; left = 0; right = 0 }
-  pub T1-12 : (k : ℕ) → k ≤ 32 → numberOf (largestGroup (edgeless 0) k .outcome) ≡ 12
+  pub T1-largest : (k : ℕ) → k ≤ 32 → largestGroup (edgeless 0) k ≡ record { outcome = Refused NoGroup; left = 0; right = 0 }
+  pub T1-12 : (k : ℕ) → k ≤ 32 → checkNumber (largestGroup (edgeless 0) k .outcome) ≡ 12
   pub T1-page : (k : ℕ) → k ≤ 32 → (room : ℕ)
       → pageOf (edgeless 0) k Start room ≡ record { outcome = Accepted; count = 0; next = Start; end = Finished }
   -- one vertex: `0 |` for k = 0, nothing for k = 1
@@ -61,7 +67,7 @@ pub record Cases : Type 0 where
   pub T4 : listing chain 0 ≡ group (0 ∷ 1 ∷ []) [] ∷ group (1 ∷ 2 ∷ []) [] ∷ []
   -- A at k = 1: two groups, the first of them the largest
   pub T5 : listing sampleA 1 ≡ group (0 ∷ 1 ∷ []) (2 ∷ 3 ∷ []) ∷ group (0 ∷ 4 ∷ []) (2 ∷ []) ∷ []
-  pub T5-largest : largestGroup sampleA 1 ≡ record { outcome = Found; left = set (0 ∷ 1 ∷ []); right = set (2 ∷ 3 ∷ []) }
+  pub T5-largest : largestGroup sampleA 1 ≡ record { outcome = Accepted; left = set (0 ∷ 1 ∷ []); right = set (2 ∷ 3 ∷ []) }
   -- A at k = 2: the larger alone; reduced for 2 it has 6 edges, reduced for 1 all 8
   pub T6 : listing sampleA 2 ≡ group (0 ∷ 1 ∷ []) (2 ∷ 3 ∷ []) ∷ []
   pub T6-edges : edgeCount (reduced sampleA 2 .graph) ≡ 6
@@ -93,7 +99,7 @@ check-of : (g : SignedGraph) (k : ℕ) → sound g ≡ true → k ≤ 32 → che
 check-of g k e h = ap₂ checkBy e (le-leb k 32 h)
 
 sound-0 : sound (edgeless 0) ≡ true
-unfolding edgeless sound whole loopless symmetric confined unambiguous R.all S.mem
+unfolding edgeless sound hasAllRows loopless symmetric confined unambiguous R.all S.mem
 sound-0 = refl
 
 -- ---- their listings
@@ -108,52 +114,53 @@ at-T5 = ap (map (itemOf sampleA)) (cases-groups .T5)
 
 -- ---- the calls on them
 
-at-T1-largest : (k : ℕ) → k ≤ 32 → largestGroup (edgeless 0) k ≡ record { outcome = NoGroup; left = 0; right = 0 }
+at-T1-largest : (k : ℕ) → k ≤ 32 → largestGroup (edgeless 0) k ≡ record { outcome = Refused NoGroup; left = 0; right = 0 }
 unfolding largestOf
-at-T1-largest k h = ap₂ (λ (c : Check) (l : List Item). largestBy c (largestOf l)) (check-of (edgeless 0) k sound-0 h) (at-T1 k)
+at-T1-largest k h = ap₂ (λ (c : Check) (l : List Item). largestGroupBy c (largestOf l)) (check-of (edgeless 0) k sound-0 h) (at-T1 k)
 
 at-T1-page : (k : ℕ) → k ≤ 32 → (room : ℕ)
     → pageOf (edgeless 0) k Start room ≡ record { outcome = Accepted; count = 0; next = Start; end = Finished }
 unfolding answer due nextMark
 at-T1-page k h room =
-    ap₂ (λ (c : Check) (l : List Item). pageBy c Start room (due setOf Start l)) (check-of (edgeless 0) k sound-0 h) (at-T1 k)
+    ap₂ (λ (c : Check) (l : List Item). pageBy itemSet recordWidth c Start room (due itemSet Start l)) (check-of (edgeless 0) k sound-0 h) (at-T1 k)
     ∙ rw min-zero
 
 check-A : checkOf sampleA 1 ≡ Accepted
 check-A = check-of sampleA 1 (samples-sound .sound-A) (omega arith)
 
-at-T5-largest : largestGroup sampleA 1 ≡ record { outcome = Found; left = 3; right = 12 }
+at-T5-largest : largestGroup sampleA 1 ≡ record { outcome = Accepted; left = 3; right = 12 }
 unfolding largestOf S.size R.count S.mem
-at-T5-largest = ap₂ (λ (c : Check) (l : List Item). largestBy c (largestOf l)) check-A at-T5
+at-T5-largest = ap₂ (λ (c : Check) (l : List Item). largestGroupBy c (largestOf l)) check-A at-T5
 
 due-T12 : dueGroups sampleA 1 (After 15) ≡ group (0 ∷ 4 ∷ []) (2 ∷ []) ∷ []
 unfolding due select precedes difference S.lowest S.mem R.seek
-due-T12 = ap (due setOf (After 15)) at-T5
+due-T12 = ap (due itemSet (After 15)) at-T5
 
 at-T12 : pageOf sampleA 1 (After 15) 16 ≡ record { outcome = Accepted; count = 1; next = After 21; end = Finished }
 unfolding answer nextMark
-at-T12 = ap₂ (λ (c : Check) (l : List Item). pageBy c (After 15) 16 l) check-A due-T12
+at-T12 = ap₂ (λ (c : Check) (l : List Item). pageBy itemSet recordWidth c (After 15) 16 l) check-A due-T12
 
 bytes-T12 : (buffer : List ℕ) → length buffer ≡ 16
     → pageBytes sampleA 1 (After 15) buffer ≡ 17 ∷ 0 ∷ 0 ∷ 0 ∷ 0 ∷ 0 ∷ 0 ∷ 0 ∷ 4 ∷ 0 ∷ 0 ∷ 0 ∷ 0 ∷ 0 ∷ 0 ∷ 0 ∷ []
-unfolding filled records sidesRecord bytesOf
+unfolding filled records sidesRecord wordBytes
 bytes-T12 buffer h =
-    ap₂ (λ (c : Check) (l : List Item). bytesBy c l buffer) check-A due-T12
+    ap₂ (λ (c : Check) (l : List Item). bytesBy recordOf recordWidth c l buffer) check-A due-T12
     ∙ rw (h, drop-of-length-le buffer {i = 16} (omega (arith, h)))
 
 -- how many records a buffer of so many bytes takes
 taken : (room : ℕ) → pageOf sampleA 1 Start room .count ≡ min (room / 16) 2
 unfolding answer due
-taken room = ap₂ (λ (c : Check) (l : List Item). pageBy c Start room (due setOf Start l) .count) check-A at-T5
+taken room = ap₂ (λ (c : Check) (l : List Item). pageBy itemSet recordWidth c Start room (due itemSet Start l) .count) check-A at-T5
 
 pub cases : Cases
 unfolding listing left right R.seek S.mem S.collect S.lowest
 cases =
     record {
       A = graph-A;
+      A-written = writes-A;
       T1 = at-T1;
       T1-largest = at-T1-largest;
-      T1-12 = λ k h. ap (λ (r : LargestGroup). numberOf (r .outcome)) (at-T1-largest k h);
+      T1-12 = λ k h. ap (λ (r : LargestGroup). checkNumber (r .outcome)) (at-T1-largest k h);
       T1-page = at-T1-page;
       T2-at-0 = ap (map (itemOf (edgeless 1))) (cases-groups .T2-at-0);
       T2-at-1 = ap (map (itemOf (edgeless 1))) (cases-groups .T2-at-1);
@@ -165,10 +172,10 @@ cases =
       T6-edges = reduction.cases-reductions .T6-edges;
       T6-at-1-edges = reduction.cases-reductions .T6-at-1-edges;
       T7 = ap (map (itemOf sampleA)) (cases-groups .T7);
-      T8 = ap₂ verdicts.answerTo check-A (cases-verdicts .T8);
-      T9 = ap₂ verdicts.answerTo check-A (cases-verdicts .T9);
-      T10 = ap₂ verdicts.answerTo (check-of triangle 1 (samples-sound .sound-triangle) (omega arith)) (cases-verdicts .T10);
-      T11 = ap₂ verdicts.answerTo (check-of sampleA 2 (samples-sound .sound-A) (omega arith)) (cases-verdicts .T11);
+      T8 = ap₂ verdicts.classifiedBy check-A (cases-verdicts .T8);
+      T9 = ap₂ verdicts.classifiedBy check-A (cases-verdicts .T9);
+      T10 = ap₂ verdicts.classifiedBy (check-of triangle 1 (samples-sound .sound-triangle) (omega arith)) (cases-verdicts .T10);
+      T11 = ap₂ verdicts.classifiedBy (check-of sampleA 2 (samples-sound .sound-A) (omega arith)) (cases-verdicts .T11);
       T12 = at-T12;
       T12-bytes = bytes-T12;
       bytes-31 = taken 31;

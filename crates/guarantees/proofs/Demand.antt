@@ -1,42 +1,43 @@
 -- Demand 3, for every list of page calls. Assumes nothing.
-use Prim.Native.Nat.{ℕ, _*_, _≤_}
+use Prim.Native.Nat.{ℕ, _≤_}
 use native.Mathlib.Omega.{arith}
 use mathlib.Core.Path.{_≡_, refl, sym, ap, ap₂, _∙_, subst}
 use mathlib.Core.Logic.{inl, inr}
 use mathlib.Core.Bool.{true, false}
 use mathlib.Core.List.{List, [], _∷_, _++_, map, List·Memᴰ, List·Memᴰ·head, List·Memᴰ·tail}
-use lib.ListN.{length, drop}
+use lib.ListN.{length}
 use borrow.Author.Tests.{le-leb}
 use Rattle.vertex_set.specs.Lists.{Sorted}
-use Rattle.vertex_set.proofs.Booleans.{clash, cases}
+use Rattle.vertex_set.proofs.Booleans.{clash}
 use Rattle.signed_graph.specs.declared.SignedGraph.{SignedGraph}
 use Rattle.signed_graph.specs.declared.Check.{Check}
 use Rattle.signed_graph.specs.declared.Check.the-variants.{Accepted, Refused}
 use Rattle.signed_graph.specs.Soundness.{sound}
 use Rattle.signed_graph.specs.Calls.{checkBy, checkOf}
 use Rattle.signed_graph.proofs.Soundness.{Sound, to-sound}
-use Rattle.clique.specs.Groups.{Group}
-use Rattle.clique.specs.Order.{groups}
+use Rattle.clique.specs.Groups.{Group, groups}
 use Rattle.clique.proofs.Groups.{groups-exact}
 use Rattle.reduction.specs.Reductions.{reduced}
 use Rattle.reduction.proofs.Groups.{SameGroups, reduce-keeps}
 use Rattle.edge_list.proofs.Answers.{accepted-words, accepted-sound}
-use Rattle.listing.specs.declared.Bookmark.{Bookmark}
-use Rattle.listing.specs.declared.Bookmark.the-variants.{Start}
-use Rattle.listing.specs.declared.Page.{Page}
-use Rattle.listing.specs.declared.LargestGroup.{LargestGroup}
-use Rattle.listing.specs.Listing.{Item, itemOf, comesBefore, listing}
-use Rattle.listing.specs.Records.{recordOf}
-use Rattle.listing.specs.Pages.{due, answer, filled}
-use Rattle.listing.specs.Calls.{setOf, dueGroups, pageBy, bytesBy}
-use Rattle.listing.specs.Largest.{larger, largestOf, answerTo, largestBy, largestGroup}
-use Rattle.listing.proofs.Records.{record-wide}
-use Rattle.listing.proofs.Pages.{Paged, paged}
-use Rattle.listing.proofs.Listing.{listing-sorted, listing-exact}
-use Rattle.listing.proofs.Distinct.{records-differ}
-use Rattle.listing.proofs.LargestOf.{largest-found}
-use Rattle.guarantees.specs.Demand.{Call, Ran, isAccepted, taken, stepOf, OneOf, Gets, Linked, Each, Largest, Demand3, Statement}
-use Rattle.guarantees.proofs.PageLists.{Idle, Runs, Chain, all-joined, all-written, runs, finished}
+use Rattle.pages.specs.declared.Bookmark.{Bookmark}
+use Rattle.pages.specs.declared.Bookmark.the-variants.{Start}
+use Rattle.pages.specs.declared.Page.{Page}
+use Rattle.largest.specs.declared.LargestGroup.{LargestGroup}
+use Rattle.clique.specs.Listing.{Item, itemOf, comesBefore, listing}
+use Rattle.group_pages.specs.Records.{recordWidth, recordOf}
+use Rattle.pages.specs.Pages.{due, answer, filled}
+use Rattle.clique.specs.Listing.{itemSet}
+use Rattle.pages.specs.Pages.{pageBy, bytesBy}
+use Rattle.group_pages.specs.Calls.{dueGroups}
+use Rattle.largest.specs.Largest.{larger, largestOf, largestOrNone, largestGroupBy, largestGroup}
+use Rattle.group_pages.proofs.Records.{record-wide}
+use Rattle.pages.proofs.Pages.{Paged, paged}
+use Rattle.clique.proofs.Listing.{listing-sorted, listing-exact}
+use Rattle.group_pages.proofs.Distinct.{records-differ}
+use Rattle.largest.proofs.LargestOf.{largest-found}
+use Rattle.guarantees.specs.Demand.{Call, Ran, isAccepted, taken, callStep, OneOf, Gets, Linked, Largest, Demand3, Statement}
+use Rattle.pages.proofs.PageLists.{Idle, Chain, all-pages}
 
 -- ---- the listing of S reduced is that of S
 
@@ -56,8 +57,8 @@ same-listing g r k so same =
 
 -- ---- a refused call
 
-idle : (t : Check) (c : Call) (l : List Item) → c .answer ≡ pageBy t (c .from) (length (c .entry)) l
-    → c .exit ≡ bytesBy t l (c .entry) → taken c ≡ false → Idle (stepOf c)
+idle : (t : Check) (c : Call) (l : List Item) → c .answer ≡ pageBy itemSet recordWidth t (c .from) (length (c .entry)) l
+    → c .exit ≡ bytesBy recordOf recordWidth t l (c .entry) → taken c ≡ false → Idle (callStep c)
 unfolding answer
 idle Accepted c l p q e = clash (taken c) (ap (λ (a : Page). isAccepted (a .outcome)) p) e
 idle (Refused why) c l p q e =
@@ -68,12 +69,12 @@ idle (Refused why) c l p q e =
       told = ap (λ (a : Page). a .end) p;
     }
 
-ran-idle : (c : Call) → Ran c → taken c ≡ false → Idle (stepOf c)
+ran-idle : (c : Call) → Ran c → taken c ≡ false → Idle (callStep c)
 ran-idle c h = idle (checkOf (c .graph) (c .k)) c (dueGroups (c .graph) (c .k) (c .from)) (h .answered) (h .wrote)
 
 -- ---- the largest group
 
-largest-of : (l : List Item) → Sorted comesBefore l → (r : LargestGroup) → r ≡ answerTo (largestOf l) → Largest l r
+largest-of : (l : List Item) → Sorted comesBefore l → (r : LargestGroup) → r ≡ largestOrNone (largestOf l) → Largest l r
 unfolding largestOf
 largest-of [] h r e = record { none = (λ q. refl, λ q. ap (λ (a : LargestGroup). a .outcome) e); else = λ d. absurd (d refl) }
 largest-of (x ∷ l) h r e =
@@ -109,27 +110,27 @@ module _ (S : SignedGraph) (k : ℕ) (sound-S : sound S ≡ true) (small : k ≤
     check : checkOf (c .graph) (c .k) ≡ Accepted
     check = ap (checkOf (c .graph)) (w .0) ∙ one-check (c .graph) (w .1)
 
-    same-due : dueGroups (c .graph) (c .k) (c .from) ≡ due setOf (c .from) (listing S k)
-    same-due = ap (due setOf (c .from)) (ap (listing (c .graph)) (w .0) ∙ one-listing (c .graph) (w .1))
+    same-due : dueGroups (c .graph) (c .k) (c .from) ≡ due itemSet (c .from) (listing S k)
+    same-due = ap (due itemSet (c .from)) (ap (listing (c .graph)) (w .0) ∙ one-listing (c .graph) (w .1))
 
-    answered : c .answer ≡ answer setOf 16 (c .from) (length (c .entry)) (due setOf (c .from) (listing S k))
-    answered = h .answered ∙ ap₂ (λ (x : Check) (l : List Item). pageBy x (c .from) (length (c .entry)) l) check same-due
+    answered : c .answer ≡ answer itemSet recordWidth (c .from) (length (c .entry)) (due itemSet (c .from) (listing S k))
+    answered = h .answered ∙ ap₂ (λ (x : Check) (l : List Item). pageBy itemSet recordWidth x (c .from) (length (c .entry)) l) check same-due
 
-    wrote : c .exit ≡ filled recordOf 16 (due setOf (c .from) (listing S k)) (c .entry)
-    wrote = h .wrote ∙ ap₂ (λ (x : Check) (l : List Item). bytesBy x l (c .entry)) check same-due
+    wrote : c .exit ≡ filled recordOf recordWidth (due itemSet (c .from) (listing S k)) (c .entry)
+    wrote = h .wrote ∙ ap₂ (λ (x : Check) (l : List Item). bytesBy recordOf recordWidth x l (c .entry)) check same-due
 
     is-taken : taken c ≡ true
     unfolding answer
     is-taken = ap (λ (a : Page). isAccepted (a .outcome)) answered
 
-    is-page : Paged setOf recordOf 16 (listing S k) (c .from) (c .entry) (c .answer) (c .exit)
+    is-page : Paged itemSet recordOf recordWidth (listing S k) (c .from) (c .entry) (c .answer) (c .exit)
     is-page =
-        subst (λ (a : Page). Paged setOf recordOf 16 (listing S k) (c .from) (c .entry) a (c .exit)) (sym answered)
-        (subst (Paged setOf recordOf 16 (listing S k) (c .from) (c .entry) _) (sym wrote)
-        (paged setOf recordOf 16 (listing S k) record-wide sorted (c .from) (c .entry)))
+        subst (λ (a : Page). Paged itemSet recordOf recordWidth (listing S k) (c .from) (c .entry) a (c .exit)) (sym answered)
+        (subst (Paged itemSet recordOf recordWidth (listing S k) (c .from) (c .entry) _) (sym wrote)
+        (paged itemSet recordOf recordWidth (listing S k) record-wide sorted (c .from) (c .entry)))
 
   abbrev Pages : Bookmark → List Call → Type 0
-  Pages = Chain setOf recordOf 16 (listing S k) stepOf
+  Pages = Chain itemSet recordOf recordWidth (listing S k) callStep
 
   chain : (m : Bookmark) (calls : List Call) → Linked S k m calls → Pages m calls
   chain m [] h = tt
@@ -149,31 +150,15 @@ module _ (S : SignedGraph) (k : ℕ) (sound-S : sound S ≡ true) (small : k ≤
   largest-one : (g : SignedGraph) → OneOf S k g → (r : LargestGroup) → r ≡ largestGroup g k → Largest (listing S k) r
   largest-one g o r e =
       largest-of (listing S k) sorted r
-      (e ∙ ap₂ (λ (x : Check) (l : List Item). largestBy x (largestOf l)) (one-check g o) (one-listing g o))
-
-  module _ (done : List Call) (c : Call) (left : List Call) (h : Linked S k Start (done ++ c ∷ left)) where
-    each : Each S k (done ++ c ∷ []) c
-    each =
-        let did : Ran c = ran done c left Start h in
-        let pages : Pages Start (done ++ c ∷ left) = chain Start (done ++ c ∷ left) h in
-        let run : Runs setOf recordOf 16 (listing S k) stepOf c = runs setOf recordOf 16 (listing S k) stepOf done c left pages in
-        let stays : Type 0 = drop (16 * c .answer .count) (c .exit) ≡ drop (16 * c .answer .count) (c .entry) in
-        record {
-          not-refused = is-taken c did;
-          finished = finished setOf recordOf 16 (listing S k) stepOf done c left pages;
-          behind = cases stays (taken c) (λ t. run .page t .behind) (λ t. ap (drop (16 * c .answer .count)) (run .idle t .kept));
-          refused = λ t. let i : Idle (stepOf c) = run .idle t in (i .counted, i .kept, i .told, i .same);
-        }
+      (e ∙ ap₂ (λ (x : Check) (l : List Item). largestGroupBy x (largestOf l)) (one-check g o) (one-listing g o))
 
   whole : (calls : List Call) → Linked S k Start calls → Demand3 S k calls
   whole calls h =
       record {
         order = sorted;
         exact = listing-exact S so k;
-        wrote = all-joined setOf recordOf 16 (listing S k) stepOf calls (chain Start calls h);
-        number = all-written setOf recordOf 16 (listing S k) stepOf calls (chain Start calls h);
-        once = records-differ S so k;
-        each = λ done c left e. each done c left (subst (Linked S k Start) e h);
+        pages = all-pages itemSet recordOf recordWidth (listing S k) callStep (records-differ S so k) calls (chain Start calls h);
+        not-refused = λ done c left e. is-taken c (ran done c left Start (subst (Linked S k Start) e h));
         largest = largest-one;
       }
 

@@ -1,29 +1,27 @@
 -- The users' third demand: what a list of page calls writes, all calls together, and what the call for the largest group says.
 -- S is the graph of an accepted edge list, k a threshold. Assumes nothing.
-use Prim.Native.Nat.{ℕ, _*_, _≤_, min}
+use Prim.Native.Nat.{ℕ, _≤_}
 use mathlib.Core.Path.{_≡_}
 use mathlib.Core.Logic.{_≢_, _⊎_, _↔_}
 use mathlib.Core.Bool.{Bool, true, false}
 use mathlib.Core.List.{List, [], _∷_, _++_, List·Memᴰ}
-use lib.ListN.{length, take, drop}
+use lib.ListN.{length}
 use Rattle.vertex_set.specs.Lists.{Sorted}
 use Rattle.signed_graph.specs.declared.SignedGraph.{SignedGraph}
 use Rattle.signed_graph.specs.declared.Check.{Check}
 use Rattle.signed_graph.specs.declared.Check.the-variants.{Accepted, Refused}
 use Rattle.reduction.specs.Reductions.{reduced}
 use Rattle.edge_list.specs.Decoding.{accepted, decoded}
-use Rattle.listing.specs.declared.Bookmark.{Bookmark}
-use Rattle.listing.specs.declared.Bookmark.the-variants.{Start}
-use Rattle.listing.specs.declared.End.the-variants.{Finished, More}
-use Rattle.listing.specs.declared.Page.{Page}
-use Rattle.listing.specs.declared.Finding.the-variants.{Found, NoGroup}
-use Rattle.listing.specs.declared.LargestGroup.{LargestGroup}
-use Rattle.listing.specs.Listing.{Item, Listed, comesBefore, listing}
-use Rattle.listing.specs.Records.{recordOf}
-use Rattle.listing.specs.Pages.{records}
-use Rattle.listing.specs.Calls.{pageOf, pageBytes}
-use Rattle.listing.specs.Largest.{IsLargest, largestGroup}
-use Rattle.guarantees.specs.PageLists.{Step, written, joined, places}
+use Rattle.pages.specs.declared.Bookmark.{Bookmark}
+use Rattle.pages.specs.declared.Bookmark.the-variants.{Start}
+use Rattle.pages.specs.declared.Page.{Page}
+use Rattle.signed_graph.specs.declared.Refusal.the-variants.{NoGroup}
+use Rattle.largest.specs.declared.LargestGroup.{LargestGroup}
+use Rattle.clique.specs.Listing.{Item, Listed, comesBefore, listing}
+use Rattle.group_pages.specs.Records.{recordWidth, recordOf}
+use Rattle.group_pages.specs.Calls.{pageOf, pageBytes}
+use Rattle.largest.specs.Largest.{IsLargest, largestGroup}
+use Rattle.pages.specs.PageLists.{Step, AllPages}
 
 -- ---- the calls
 
@@ -49,8 +47,8 @@ isAccepted (Refused why) = false
 abbrev pub taken : Call → Bool
 taken c = isAccepted (c .answer .outcome)
 
-abbrev pub stepOf : Call → Step
-stepOf c = record { accepted = taken c; from = c .from; entry = c .entry; answer = c .answer; exit = c .exit }
+abbrev pub callStep : Call → Step
+callStep c = record { accepted = taken c; from = c .from; entry = c .entry; answer = c .answer; exit = c .exit }
 
 -- a call from what `list_page` gets and gives
 abbrev pub callOf : SignedGraph → ℕ → Bookmark → List ℕ → Page → List ℕ → Call
@@ -72,40 +70,22 @@ Linked S k m (c ∷ calls) = Ran c × (c .from ≡ m) × (taken c ≡ true → G
 
 -- ---- what is said of them
 
--- how many groups S has for k
-abbrev pub G : SignedGraph → ℕ → ℕ
-G S k = length (listing S k)
-
--- of one call c of the list; `calls` are those up to it and with it
-pub record Each (S : SignedGraph) (k : ℕ) (calls : List Call) (c : Call) : Type 0 where
-  -- with k, and S or S reduced for k, it is accepted, whatever its buffer
-  pub not-refused : Gets S k c → taken c ≡ true
-  -- accepted, it says finished exactly where the calls up to it have written all groups
-  pub finished : taken c ≡ true → (c .answer .end ≡ Finished) ↔ (written stepOf calls ≡ G S k)
-  -- the bytes behind its records are what they were
-  pub behind : drop (16 * c .answer .count) (c .exit) ≡ drop (16 * c .answer .count) (c .entry)
-  -- refused, it writes nothing, says that there is more, and gives back its bookmark
-  pub refused : taken c ≡ false
-      → (c .answer .count ≡ 0) × (c .exit ≡ c .entry) × (c .answer .end ≡ More) × (c .answer .next ≡ c .from)
-
 -- of the answer of the call for the largest group, where the groups are those of l
 pub record Largest (l : List Item) (r : LargestGroup) : Type 0 where
   -- it says that there is none exactly where there is none
-  pub none : (r .outcome ≡ NoGroup) ↔ (length l ≡ 0)
+  pub none : (r .outcome ≡ Refused NoGroup) ↔ (length l ≡ 0)
   -- else it gives the sides of one of them, and each of the others has fewer vertices, or as many and a later place
-  pub else : length l ≢ 0 → (x : Item) × (r ≡ record { outcome = Found; left = x .left; right = x .right }) × IsLargest l x
+  pub else : length l ≢ 0 → (x : Item) × (r ≡ record { outcome = Accepted; left = x .left; right = x .right }) × IsLargest l x
 
 -- the whole
 pub record Demand3 (S : SignedGraph) (k : ℕ) (calls : List Call) : Type 0 where
   -- the listing is in listing order, so each group is in it once; and in it is exactly what is a group, with its sides
   pub order : Sorted comesBefore (listing S k)
   pub exact : (x : Item) → List·Memᴰ x (listing S k) ↔ Listed S k x
-  -- the records of all calls, joined, are those of the first groups: as many as there are groups, or as the accepted calls had places
-  -- for, whichever is less; and no two groups have the same record
-  pub wrote : joined stepOf 16 calls ≡ records recordOf (take (min (G S k) (places stepOf 16 calls)) (listing S k))
-  pub number : written stepOf calls ≡ min (G S k) (places stepOf 16 calls)
-  pub once : (x y : Item) → List·Memᴰ x (listing S k) → List·Memᴰ y (listing S k) → recordOf x ≡ recordOf y → x ≡ y
-  pub each : (done : List Call) (c : Call) (left : List Call) → calls ≡ done ++ c ∷ left → Each S k (done ++ c ∷ []) c
+  -- the page calls, all together: the records that they wrote, and what each says
+  pub pages : AllPages recordOf recordWidth (listing S k) callStep calls
+  -- a call with k, and S or S reduced for k, is accepted, whatever its buffer
+  pub not-refused : (done : List Call) (c : Call) (left : List Call) → calls ≡ done ++ c ∷ left → Gets S k c → taken c ≡ true
   -- the largest group, asked of S or of S reduced for k
   pub largest : (g : SignedGraph) → OneOf S k g → (r : LargestGroup) → r ≡ largestGroup g k → Largest (listing S k) r
 

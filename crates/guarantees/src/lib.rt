@@ -1,15 +1,15 @@
 // The calls that demand 3 speaks of. Each does what the call of its name does, and ensures what the theorem asks of it.
 use edge_list::Decoded;
-use listing::Bookmark;
-use listing::LargestGroup;
-use listing::Page;
+use largest::LargestGroup;
+use pages::Bookmark;
+use pages::Page;
 use reduction::Reduced;
 use signed_graph::SignedGraph;
 ghost use mathlib.Core.Path.{_≡_};
 ghost use Rattle.edge_list.specs.declared.Outcome.the-variants as outcome;
 ghost use Rattle.edge_list.specs.Decoding.{accepted, decoded};
 ghost use Rattle.reduction.specs.Reductions.{reduced};
-ghost use Rattle.listing.specs.Largest.{largestGroup};
+ghost use Rattle.largest.specs.Largest.{largestGroup};
 ghost use Rattle.guarantees.specs.Demand.{Ran, OneOf, callOf};
 
 // An accepted edge list has a graph, the S of the theorem.
@@ -39,5 +39,5 @@ pub fn page_call(g: SignedGraph, k: u64, from: Bookmark, out: &mut [u8]) -> Page
 pub fn largest_call(g: SignedGraph, k: u64) -> LargestGroup
     ensures { λ r. ⌜ r ≡ largestGroup g k ⌝ }
 {
-    listing::largest(g, k)
+    largest::largest(g, k)
 }

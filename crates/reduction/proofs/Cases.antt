@@ -5,14 +5,15 @@ use lib.ListN.{replicate}
 use Rattle.vertex_set.specs.Lists.{select}
 use Rattle.vertex_set.specs.Ranges as R
 use Rattle.vertex_set.specs.Sets as S
+use Rattle.bit_matrix.specs.Matrices.{tableOf}
 use Rattle.signed_graph.specs.declared.SignedGraph.{SignedGraph}
 use Rattle.signed_graph.specs.declared.Check.the-variants.{Accepted}
-use Rattle.signed_graph.specs.Graphs.{vertices, edgeCount, tableOf}
+use Rattle.signed_graph.specs.Graphs.{vertices, edgeCount}
 use Rattle.signed_graph.specs.Samples.{sampleA}
-use Rattle.signed_graph.specs.Soundness.{sound, whole, loopless, symmetric, confined, unambiguous}
+use Rattle.signed_graph.specs.Soundness.{sound, hasAllRows, loopless, symmetric, confined, unambiguous}
 use Rattle.clique.specs.Balance.{balanced, allAgree, left, right}
-use Rattle.clique.specs.Groups.{floor, extension, isGroup}
-use Rattle.clique.specs.Order.{choices, subsets, groups}
+use Rattle.clique.specs.Groups.{floor, extension, isGroup, groups}
+use Rattle.vertex_set.specs.Order.{choices, subsets}
 use Rattle.clique.proofs.Cases.{set}
 use Rattle.reduction.specs.declared.Reduced.{Reduced}
 use Rattle.reduction.specs.Collections.{atLeast, vertexFits, positiveFits, negativeFits}
@@ -35,11 +36,11 @@ pub record Reductions : Type 0 where
 
 -- each is computed once
 at-2 : reduced sampleA 2 ≡ record { outcome = Accepted; graph = coreA }
-unfolding reducedGraph rounds round fallen vertexFits positiveFits negativeFits atLeast tableOf sound whole loopless symmetric confined unambiguous R.all R.count R.gather S.mem S.collect
+unfolding reducedGraph rounds round fallen vertexFits positiveFits negativeFits atLeast tableOf sound hasAllRows loopless symmetric confined unambiguous R.all R.count R.gather S.mem S.collect
 at-2 = refl
 
 at-1 : reduced sampleA 1 ≡ record { outcome = Accepted; graph = sampleA }
-unfolding reducedGraph rounds round fallen vertexFits positiveFits negativeFits atLeast tableOf sound whole loopless symmetric confined unambiguous R.all R.count R.gather S.mem S.collect
+unfolding reducedGraph rounds round fallen vertexFits positiveFits negativeFits atLeast tableOf sound hasAllRows loopless symmetric confined unambiguous R.all R.count R.gather S.mem S.collect
 at-1 = refl
 
 pub cases-reductions : Reductions

@@ -21,12 +21,12 @@ use Rattle.signed_graph.specs.Soundness.{sound}
 use Rattle.signed_graph.specs.Calls.{checkBy}
 use Rattle.signed_graph.proofs.Soundness.{Sound, to-sound, from-sound}
 use Rattle.clique.specs.Balance.{Split, Balanced, Sides, left, right}
-use Rattle.clique.specs.Groups.{Group}
-use Rattle.clique.specs.Order.{subsets, groups}
+use Rattle.clique.specs.Groups.{Group, groups}
+use Rattle.vertex_set.specs.Order.{subsets}
 use Rattle.clique.proofs.Balance.{usable-64, other-side, split-swap, split-part, split-balanced, is-left, is-right, one-split}
 use Rattle.clique.proofs.Groups.{floor-least, group-words, words-group}
-use Rattle.reduction.specs.Collections.{Collection, edgesOf, Inside, atLeast, vertexFits, positiveFits, negativeFits, Fits}
-use Rattle.reduction.specs.Reductions.{Reduction, reducedGraph, answerTo, reduced}
+use Rattle.reduction.specs.Collections.{Collection, allEdges, Inside, atLeast, vertexFits, positiveFits, negativeFits, Fits}
+use Rattle.reduction.specs.Reductions.{Reduction, reducedGraph, reducedBy, reduced}
 use Rattle.reduction.proofs.Reductions.{rounds-reduce, reduction-sound}
 
 -- ---- counts
@@ -53,7 +53,7 @@ module _ (g : SignedGraph) (so : Sound g) where
       and-intro _ _ (and-intro _ _ (sp .either p ∙ or-left _ _ x) (sp .either q ∙ or-right (mem q _) _ y)) (sp .across p q x y)
 
   -- so a graph that has them has the split
-  carried : (h : SignedGraph) {s a b : ℕ} → Inside (within g s) (edgesOf h) → Split g s a b → Split h s a b
+  carried : (h : SignedGraph) {s a b : ℕ} → Inside (within g s) (allEdges h) → Split g s a b → Split h s a b
   carried h i sp =
       record {
         either = sp .either;
@@ -122,18 +122,18 @@ carried-group x b sides most =
     }
 
 module _ (g r : SignedGraph) (k : ℕ) (so : Sound g) (sr : Sound r) (red : Reduction g k r) where
-  pub split-out : {s a b : ℕ} → Split r s a b → Split g s a b
+  split-out : {s a b : ℕ} → Split r s a b → Split g s a b
   split-out {s} sp =
       carried r sr g (record {
         positive = λ p q e. red .inside .positive p q (and-right (mem p s && mem q s) _ e);
         negative = λ p q e. red .inside .negative p q (and-right (mem p s && mem q s) _ e);
       }) sp
 
-  pub balanced-out : {s : ℕ} → Balanced r s → Balanced g s
+  balanced-out : {s : ℕ} → Balanced r s → Balanced g s
   unfolding vertices
   balanced-out b = split-balanced g so (rw (red .same-n) at (b .usable)) (split-out (b .split))
 
-  pub split-in : {s a b : ℕ} → Split g s a b → k ≤ size a → k ≤ size b → Split r s a b
+  split-in : {s a b : ℕ} → Split g s a b → k ≤ size a → k ≤ size b → Split r s a b
   split-in {s} sp x y =
       carried g so r
       (red .largest (within g s)
@@ -144,7 +144,7 @@ module _ (g r : SignedGraph) (k : ℕ) (so : Sound g) (sr : Sound r) (red : Redu
       (record { positive = λ p q. and-right (mem p s && mem q s) _; negative = λ p q. and-right (mem p s && mem q s) _ })
       (within-fits g so k s sp x y)) sp
 
-  pub balanced-in : {s a b : ℕ} → Balanced g s → Split g s a b → (k ≤ size a) × (k ≤ size b) → Balanced r s
+  balanced-in : {s a b : ℕ} → Balanced g s → Split g s a b → (k ≤ size a) × (k ≤ size b) → Balanced r s
   unfolding vertices
   balanced-in b sp f = split-balanced r sr (rw (← red .same-n) at (b .usable)) (split-in sp (f .0) (f .1))
 
@@ -164,7 +164,7 @@ module _ (g r : SignedGraph) (k : ℕ) (so : Sound g) (sr : Sound r) (red : Redu
         (λ e. (omega (arith, ap size (e .0), size-part x s), omega (arith, ap size (e .1), size-part y s)))
         (one-split g so s (bitAnd x s) (bitAnd y s) (h .nonempty) s64 (split-part g so w sp))
 
-    pub group-out : Group g k s
+    group-out : Group g k s
     group-out =
         carried-group h (balanced-out (h .balanced)) sides-out (λ t b w. h .maximal t (balanced-in b (b .split) (wider w (b .split))) w)
 
@@ -177,18 +177,18 @@ module _ (g r : SignedGraph) (k : ℕ) (so : Sound g) (sr : Sound r) (red : Redu
         let f = floor-least k _ _ (h .enough) in
         record { split = split-in (h .sides .split) (f .0) (f .1); lowest-left = h .sides .lowest-left }
 
-    pub group-in : Group r k s
+    group-in : Group r k s
     group-in =
         carried-group h (balanced-in (h .balanced) (h .sides .split) (floor-least k _ _ (h .enough))) sides-in
         (λ t b w. h .maximal t (balanced-out b) w)
 
-    pub same-left : left r s ≡ left g s
+    same-left : left r s ≡ left g s
     same-left = sym (is-left r sr s _ _ s64 sides-in) ∙ is-left g so s _ _ s64 (h .sides)
 
-    pub same-right : right r s ≡ right g s
+    same-right : right r s ≡ right g s
     same-right = sym (is-right r sr s _ _ s64 sides-in) ∙ is-right g so s _ _ s64 (h .sides)
 
-  pub same-groups : groups r k ≡ groups g k
+  same-groups : groups r k ≡ groups g k
   unfolding groups
   same-groups =
       ap₂ (λ (f : ℕ → Bool) (n : ℕ). select f (subsets n))
@@ -215,6 +215,6 @@ reduce-keeps g k e small =
     let so : Sound g = to-sound g e in
     let red : Reduction g k (reducedGraph g k) = rounds-reduce g k so in
     let accepted : reducedGraph g k ≡ reduced g k .graph =
-    sym (ap₂ (λ (a b : Bool). answerTo (checkBy a b) (reducedGraph g k) .graph) e (le-leb k 32 small)) in
+    sym (ap₂ (λ (a b : Bool). reducedBy (checkBy a b) (reducedGraph g k) .graph) e (le-leb k 32 small)) in
     subst (λ (r : SignedGraph). (sound r ≡ true) × SameGroups g r k) accepted
     (from-sound (reducedGraph g k) (reduction-sound g k so red), reduction-keeps g (reducedGraph g k) k so red)

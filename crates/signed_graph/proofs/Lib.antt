@@ -1,8 +1,5 @@
 pub mod Soundness
-pub mod Tables
 pub mod EdgeCounts
 pub mod Calls
-mod Digits
-mod Transposition
-mod PackedTables
-mod RowChecks
+pub mod PackedTables
+pub mod RowChecks

@@ -1,6 +1,7 @@
 pub mod Graphs
 pub mod Soundness
 pub mod Calls
-pub mod Transposition
 pub mod Rows
 pub mod Samples
+pub mod Tables
+pub mod Thresholds

@@ -5,7 +5,12 @@ pub mod Buffers
 pub mod Ranges
 pub mod Membership
 pub mod Collections
+pub mod Copies
 pub mod Sizes
 pub mod LowestVertex
 pub mod Sweeps
 pub mod Gathering
+pub mod Sums
+pub mod Order
+pub mod Singles
+pub mod SizeBounds

@@ -2,7 +2,7 @@
 use mathlib.Core.Path.{_≡_}
 use mathlib.Core.Bool.{Bool, true, false}
 use mathlib.Core.List.{List, []}
-use Prim.Native.Nat.{ℕ, zero, suc, _+_, _*_, _/_, _%_, _^_}
+use Prim.Native.Nat.{ℕ, zero, suc, _+_, _-_, _*_, _/_, _%_, _^_}
 use lib.Dec.{eqb, ltb}
 use lib.Bits.{bitOr}
 use Rattle.vertex_set.specs.Ranges.{bit, count, seek, gather}
@@ -44,3 +44,11 @@ below n = collect 64 (λ q. ltb q n)
 module _ {A : Type 0} where
   unfoldable pub overMembers : ℕ → (ℕ → List A) → List A
   overMembers s f = gather 64 0 (λ p. elim (mem p s) [ true ↦ f p | false ↦ [] ])
+
+-- all vertices but v
+abbrev pub others : ℕ → ℕ
+others v = 2 ^ 64 - 1 - single v
+
+-- r has no member but the only one of s
+abbrev pub SoleMember : ℕ → ℕ → Type 0
+SoleMember s r = (u w : ℕ) → mem u r ≡ true → mem w s ≡ true → w ≡ u

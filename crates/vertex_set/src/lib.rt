@@ -1,7 +1,8 @@
 // Sets of at most 64 vertices as u64 numbers: bit p says whether vertex p is in the set.
 // `&`, `|`, `^` and `& !` are intersection, union, what only one has, and difference; `s & (s - 1)` is s without its lowest vertex.
 ghost use mathlib.Core.Path.{_≡_};
-ghost use Rattle.vertex_set.specs.Sets.{mem, size, lowest, single, below};
+ghost use Rattle.vertex_set.specs.Sets.{mem, size, lowest, single, below, SoleMember};
+ghost use Rattle.vertex_set.specs.Order.{precedes};
 
 // Whether the vertex p is in s.
 pub fn contains(s: u64, p: usize) -> bool
@@ -40,4 +41,24 @@ pub fn below(n: u64) -> u64
     } else {
         0xffff_ffff_ffff_ffff
     }
+}
+
+// Whether a comes before b in listing order.
+pub fn comes_before(a: u64, b: u64) -> bool
+    ensures { λ r. ⌜ r ≡ precedes a b ⌝ }
+{
+    contains(a, lowest(a ^ b))
+}
+
+// The set s where it has one member, else the empty set.
+pub fn sole_member(s: u64) -> u64
+    ensures { λ r. ⌜ SoleMember s r ⌝ }
+{
+    if s == 0 {
+        return 0;
+    }
+    if s & (s - 1) == 0 {
+        return s;
+    }
+    0
 }

@@ -10,13 +10,14 @@ use Rattle.signed_graph.specs.declared.Check.the-variants.{Accepted}
 use Rattle.signed_graph.specs.Calls.{checkOf}
 use Rattle.signed_graph.proofs.Soundness.{to-sound}
 use Rattle.signed_graph.proofs.Calls.{accepted-sound}
-use Rattle.listing.specs.declared.Bookmark.{Bookmark}
-use Rattle.listing.specs.declared.End.the-variants.{Finished, More}
-use Rattle.listing.specs.declared.Page.{Page}
-use Rattle.listing.specs.Listing.{listing}
-use Rattle.listing.specs.Pages.{due}
-use Rattle.listing.specs.Calls.{dueGroups, pageOf}
-use Rattle.listing.proofs.Counts.{listing-few, page-rest, page-last, fewer-due}
+use Rattle.pages.specs.declared.Bookmark.{Bookmark}
+use Rattle.pages.specs.declared.End.the-variants.{Finished, More}
+use Rattle.pages.specs.declared.Page.{Page}
+use Rattle.clique.specs.Listing.{listing}
+use Rattle.pages.specs.Pages.{due}
+use Rattle.group_pages.specs.Calls.{dueGroups, pageOf}
+use Rattle.group_pages.proofs.Counts.{listing-few, page-rest, page-last, fewer-due}
+use Rattle.groups.specs.Sizes.{pageRoom}
 use Rattle.groups.proofs.print_groups.Statement.{statement}
 use Rattle.groups.proofs.print_groups.Tie as tie
 
@@ -26,19 +27,19 @@ Inv-loop g k from₀ count₀ from count = count + length (dueGroups g k from) �
 abbrev μ-loop : tie.MeasureT-loop
 μ-loop g k from₀ count₀ from count = length (dueGroups g k from)
 
-module _ (g : SignedGraph) (k : ℕ) (from : Bookmark) (page : Page) (e : page ≡ pageOf g k from 1024) where
+module _ (g : SignedGraph) (k : ℕ) (from : Bookmark) (page : Page) (e : page ≡ pageOf g k from pageRoom) where
   rest : page .count + length (dueGroups g k (page .next)) ≡ length (dueGroups g k from)
   rest =
-      subst (λ (p : Page). p .count + length (dueGroups g k (p .next)) ≡ length (dueGroups g k from)) (sym e) (page-rest g k from 1024)
+      subst (λ (p : Page). p .count + length (dueGroups g k (p .next)) ≡ length (dueGroups g k from)) (sym e) (page-rest g k from pageRoom)
 
   last : page .end ≡ Finished → page .count ≡ length (dueGroups g k from)
   last =
-      subst (λ (p : Page). p .end ≡ Finished → p .count ≡ length (dueGroups g k from)) (sym e) (page-last g k from 1024)
+      subst (λ (p : Page). p .end ≡ Finished → p .count ≡ length (dueGroups g k from)) (sym e) (page-last g k from pageRoom)
 
   fewer : checkOf g k ≡ Accepted → page .end ≡ More → length (dueGroups g k (page .next)) < length (dueGroups g k from)
   fewer a =
       subst (λ (p : Page). p .end ≡ More → length (dueGroups g k (p .next)) < length (dueGroups g k from)) (sym e)
-      (fewer-due g k from 1024 (omega arith) a)
+      (fewer-due g k from pageRoom (omega arith) a)
 
 loop-holds : tie.Need-loop-holds Inv-loop μ-loop
 unfolding due

@@ -8,17 +8,19 @@ use lib.ListN.{length, take, replicate, length-take}
 use lib.Seq.{length-take-le}
 use Rattle.vertex_set.proofs.Buffers.{front-is}
 use Rattle.signed_graph.specs.declared.SignedGraph.{SignedGraph}
-use Rattle.listing.specs.declared.Bookmark.{Bookmark}
-use Rattle.listing.specs.declared.Page.{Page}
-use Rattle.listing.specs.Calls.{pageOf}
-use Rattle.listing.proofs.Counts.{page-fits}
+use Rattle.pages.specs.declared.Bookmark.{Bookmark}
+use Rattle.pages.specs.declared.Page.{Page}
+use Rattle.group_pages.specs.Calls.{pageOf}
+use Rattle.group_pages.proofs.Counts.{page-fits}
 use Rattle.groups.specs.Answers.{recordsText}
+use Rattle.group_pages.specs.Records.{recordWidth}
+use Rattle.groups.specs.Sizes.{pageRoom}
 use Rattle.groups.proofs.Texts.{page-text}
 use Rattle.groups.proofs.put_page.Statement.{statement}
 use Rattle.groups.proofs.put_page.Tie as tie
 
-fits : (g : SignedGraph) (k : ℕ) (from : Bookmark) (page : Page) → page ≡ pageOf g k from 1024 → 16 * page .count ≤ 1024
-fits g k from page e = subst (λ (p : Page). 16 * p .count ≤ 1024) (sym e) (page-fits g k from 1024)
+fits : (g : SignedGraph) (k : ℕ) (from : Bookmark) (page : Page) → page ≡ pageOf g k from pageRoom → recordWidth * page .count ≤ pageRoom
+fits g k from page e = subst (λ (p : Page). recordWidth * p .count ≤ pageRoom) (sym e) (page-fits g k from pageRoom)
 
 mul-end : tie.Need-mul-end
 mul-end c =
@@ -44,12 +46,12 @@ put-records-requires c κs =
     let p = c .before .before .before .before .list-page in
     omega (
       arith,
-      length-take (16 * p .result .count) (p .last .1 .1 .1 .0),
+      length-take (recordWidth * p .result .count) (p .last .1 .1 .1 .0),
       fits (a .g) (a .k) (a .from) (p .result) (p .ensures .0),
     )
 
 abbrev space : List ℕ
-space = replicate 1024 0
+space = replicate pageRoom 0
 
 returns : tie.Need-returns
 returns c =
@@ -57,7 +59,7 @@ returns c =
     let a = b .args in
     let p = c .before .before .before .before .before .list-page in
     let r = c .put-records in
-    let e = ap₂ (λ (x : Page) (s : List ℕ). recordsText (take (16 * x .count) s)) (p .ensures .0) (p .ensures .1 .0)
+    let e = ap₂ (λ (x : Page) (s : List ℕ). recordsText (take (recordWidth * x .count) s)) (p .ensures .0) (p .ensures .1 .0)
     ∙ page-text (a .g) (a .k) (a .from) space refl (b .pre) in
     (p .ensures .0, (r .ensures .0 ∙ ap length e, front-is (recordsText _) _ _ (r .result) (r .ensures .0) (r .ensures .1) ∙ e))
 

@@ -1,43 +1,33 @@
 -- `groups::put_records` meets its contract. The lines of the records from i on are to come, and each has room. Assumes nothing.
-use Prim.Native.Nat.{ℕ, _+_, _-_, _*_, _/_, _≤_, _<_}
+use Prim.Native.Nat.{ℕ, _-_, _*_, _/_, _≤_}
 use native.Mathlib.Omega.{arith}
-use mathlib.Core.Path.{_≡_, sym, ap, _∙_}
-use mathlib.Core.List.{List, _++_}
+use mathlib.Core.Path.{_≡_, ap}
 use borrow.Author.Needs.{needs}
 use lib.ListN.{length, drop, length-take, length-drop}
 use Rattle.vertex_set.specs.Ranges.{gather}
-use Rattle.vertex_set.proofs.Ranges.{gather-more, gather-end}
+use Rattle.vertex_set.proofs.Ranges.{gather-end}
 use Rattle.vertex_set.proofs.Buffers.{Laid, laid-start, laid-as, laid-room, laid-long, laid-piece, laid-length, laid-end}
-use Rattle.listing.specs.Records.{recordAt}
-use Rattle.listing.proofs.Records.{record-there}
-use Rattle.report.specs.declared.Line.{Line}
-use Rattle.report.specs.Lines.{lineText}
+use Rattle.report.specs.Lines.{lineText, longestLine}
 use Rattle.report.proofs.Words.{line-short}
-use Rattle.groups.specs.Answers.{lineOfRecord, recordsText}
-use Rattle.groups.proofs.Texts.{lineAt, records-short}
+use Rattle.groups.specs.Answers.{recordsText}
+use Rattle.group_pages.specs.Records.{recordWidth}
+use Rattle.groups.proofs.Texts.{lineAt, record-long, records-short, line-next}
 use Rattle.groups.proofs.put_records.Statement.{statement}
 use Rattle.groups.proofs.put_records.Tie as tie
 
 abbrev Inv-loop : tie.InvT-loop
 Inv-loop records text₀ count i₀ at₀ text i at =
-    (at ≤ 394 * i) × Laid (recordsText records) text₀ text at (gather (count - i) i (lineAt records))
+    (at ≤ longestLine * i) × Laid (recordsText records) text₀ text at (gather (count - i) i (lineAt records))
 
 abbrev μ-loop : tie.MeasureT-loop
 μ-loop records text₀ count i₀ at₀ text i at = count - i
-
--- the line of record i comes next
-next : (records bytes : List ℕ) (line : Line) (n i : ℕ) → i < n → bytes ≡ recordAt records i → line ≡ lineOfRecord bytes
-    → gather (n - i) i (lineAt records) ≡ lineText line ++ gather (n - (i + 1)) (i + 1) (lineAt records)
-next records bytes line n i h b l =
-    gather-more (lineAt records) n i h
-    ∙ ap (λ (x : Line). lineText x ++ gather (n - (i + 1)) (i + 1) (lineAt records)) (sym (l ∙ ap lineOfRecord b))
 
 loop-holds : tie.Need-loop-holds Inv-loop μ-loop
 unfolding recordsText
 loop-holds c =
     let b = c .before .before in
     let s = b .args .records .now in
-    let n : length s / 16 ≡ length s / 16 - 0 = omega arith in (
+    let n : length s / recordWidth ≡ length s / recordWidth - 0 = omega arith in (
       omega arith,
       laid-as (ap (λ (d : ℕ). gather d 0 (lineAt s)) n)
           (laid-start (recordsText s) (b .args .text .now) (omega (arith, b .pre, records-short s))),
@@ -47,12 +37,7 @@ record-line-requires : tie.Need-record-line-requires Inv-loop μ-loop
 record-line-requires c κs =
     let s = c .before .before .before .before .before .args .records .now in
     let i = c .before .before .loop .i in
-    omega (
-      arith,
-      ap length (c .record-at .ensures ∙ record-there s i (omega arith)),
-      length-take 16 (drop (16 * i) s),
-      length-drop (16 * i) s,
-    )
+    omega (arith, ap length (c .record-at .ensures), record-long s i (omega arith))
 
 put-line-start : tie.Need-sub-put-line Inv-loop μ-loop
 put-line-start c = let l = c .before .before .before .loop in omega (arith, laid-room (l .inv .1), laid-long (l .inv .1))
@@ -84,7 +69,7 @@ loop-again c =
     let r = p .before .before .record-line in
     let l = p .before .before .before .before .before .loop in
     let s = p .before .before .before .before .before .before .before .before .args .records .now in
-    let n = next s _ (r .result) (length s / 16) (l .i) (search needs) (p .before .before .before .record-at .ensures) (r .ensures) in (
+    let n = line-next s _ (r .result) (length s / recordWidth) (l .i) (search needs) (p .before .before .before .record-at .ensures) (r .ensures) in (
       omega (arith, p .put-line .ensures .0, line-short (r .result)),
       laid-piece (lineText (r .result)) _ _ (p .put-line .result) (laid-as n (l .inv .1))
           (p .put-line .ensures .0) (p .put-line .ensures .1),
@@ -94,7 +79,7 @@ returns : tie.Need-returns Inv-loop μ-loop
 returns c =
     let a = c .before .before .before .before .args in
     let l = c .before .loop in
-    let e = laid-as (gather-end (lineAt (a .records .now)) (length (a .records .now) / 16) (l .i) (c .loop-test .left)) (l .inv .1) in
+    let e = laid-as (gather-end (lineAt (a .records .now)) (length (a .records .now) / recordWidth) (l .i) (c .loop-test .left)) (l .inv .1) in
     (laid-length e, laid-end e)
 
 pub put-records-spec : {M : Type 1} → statement M

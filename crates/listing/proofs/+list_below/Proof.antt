@@ -8,19 +8,19 @@ use borrow.Fn.PlainCycle.{Measures, is, falls, and}
 use lib.Bits.{bitOr}
 use Rattle.vertex_set.specs.Sets.{size}
 use Rattle.vertex_set.proofs.lowest.Reads as lowest-reads
-use Rattle.listing.specs.declared.Node.{Node}
-use Rattle.listing.specs.Nodes.{undecided}
-use Rattle.listing.proofs.Falling.{Decides, decides-lowest, put-falls, out-falls}
+use Rattle.nodes.specs.declared.Node.{Node}
+use Rattle.nodes.specs.Nodes.{undecided}
+use Rattle.nodes.proofs.Falling.{Decides, decides-lowest, put-falls, out-falls}
 use Rattle.listing.proofs.Search.{advances-as, lists-past, lists-barren, lists-leaf, lists-full, lists-in, lists-both}
-use Rattle.listing.proofs.is_past.Reads as is-past-reads
-use Rattle.listing.proofs.leads_to.Reads as leads-to-reads
-use Rattle.listing.proofs.leave_out.Reads as leave-out-reads
+use Rattle.pages.proofs.is_past.Reads as is-past-reads
+use Rattle.listing.proofs.agrees_below.Reads as agrees-below-reads
+use Rattle.nodes.proofs.leave_out.Reads as leave-out-reads
 use Rattle.listing.proofs.list_leaf.Reads as list-leaf-reads
-use Rattle.listing.proofs.look_ahead.Reads as look-ahead-reads
-use Rattle.listing.proofs.node_of.Reads as node-of-reads
-use Rattle.listing.proofs.propagate_off.Reads as propagate-off-reads
-use Rattle.listing.proofs.put_in.Reads as put-in-reads
-use Rattle.listing.proofs.undecided.Reads as undecided-reads
+use Rattle.look_ahead.proofs.look_ahead.Reads as look-ahead-reads
+use Rattle.nodes.proofs.node_of.Reads as node-of-reads
+use Rattle.propagation.proofs.propagate_unless.Reads as propagate-unless-reads
+use Rattle.nodes.proofs.put_in.Reads as put-in-reads
+use Rattle.nodes.proofs.undecided.Reads as undecided-reads
 use Rattle.listing.proofs.list_below.Reads as reads
 use Rattle.listing.proofs.list_below.Kinds as kinds
 use Rattle.listing.proofs.+list_below.{statement}
@@ -47,10 +47,10 @@ calls t = (
   lowest-reads.Learnt,
   is-past-reads.Asked,
   is-past-reads.Learnt,
-  leads-to-reads.Asked,
-  leads-to-reads.Learnt,
-  propagate-off-reads.Asked,
-  propagate-off-reads.Learnt,
+  agrees-below-reads.Asked,
+  agrees-below-reads.Learnt,
+  propagate-unless-reads.Asked,
+  propagate-unless-reads.Learnt,
   undecided-reads.Asked,
   undecided-reads.Learnt,
   list-leaf-reads.Asked,
@@ -68,13 +68,13 @@ calls t = (
 module _ (t : ℕ) where
   -- the vertex to decide
   decides : (c : lts.After-lowest2 (calls t) (Starts t) reads.Post)
-      → Decides t (c .before .before .before .before .before .propagate-off .result .node) (c .lowest2 .result)
+      → Decides t (c .before .before .before .before .before .propagate-unless .result .node) (c .lowest2 .result)
   decides c =
       let u = c .before .before .undecided in
       let step = c .before .before .before .before .before in
       let node = step .before .before .before .before .before in
-      decides-lowest t (node .node-of .result) (step .propagate-off .result .node)
-      (ap (λ (d : Node). size (undecided d)) (node .node-of .ensures) ∙ node .before .before .pre .0) (step .propagate-off .ensures .0)
+      decides-lowest t (node .node-of .result) (step .propagate-unless .result .node)
+      (ap (λ (d : Node). size (undecided d)) (node .node-of .ensures) ∙ node .before .before .pre .0) (step .propagate-unless .ensures .0)
       (u .result) (u .ensures) (u .ok) (c .before .if3 .left) (c .lowest2 .result) (c .lowest2 .ensures)
 
   returns : lts.Need-returns (calls t) (Starts t) reads.Post
@@ -86,8 +86,8 @@ module _ (t : ℕ) where
   returns-2 c =
       let step = c .before in
       let node = step .before .before .before .before .before in
-      lists-barren _ _ _ _ _ _ _ (step .propagate-off .result)
-      (advances-as (node .node-of .ensures) _ _ _ (step .propagate-off .result) (step .propagate-off .ensures .1)) (c .if2 .taken)
+      lists-barren _ _ _ _ _ _ _ (step .propagate-unless .result)
+      (advances-as (node .node-of .ensures) _ _ _ (step .propagate-unless .result) (step .propagate-unless .ensures .1)) (c .if2 .taken)
 
   returns-3 : lts.Need-returns-3 (calls t) (Starts t) reads.Post
   returns-3 c =
@@ -97,8 +97,8 @@ module _ (t : ℕ) where
       let fertile = u .before .before in
       let step = fertile .before in
       let node = step .before .before .before .before .before in
-      lists-leaf _ _ _ _ _ _ _ (step .propagate-off .result)
-      (advances-as (node .node-of .ensures) _ _ _ (step .propagate-off .result) (step .propagate-off .ensures .1)) (fertile .if2 .left)
+      lists-leaf _ _ _ _ _ _ _ (step .propagate-unless .result)
+      (advances-as (node .node-of .ensures) _ _ _ (step .propagate-unless .result) (step .propagate-unless .ensures .1)) (fertile .if2 .left)
       _ _ _ (u .undecided .ensures) (done .if3 .taken) (leaf .list-leaf .ensures)
 
   returns-4 : lts.Need-returns-4 (calls t) (Starts t) reads.Post
@@ -110,8 +110,8 @@ module _ (t : ℕ) where
       let fertile = v .before .before .before .before in
       let step = fertile .before in
       let node = step .before .before .before .before .before in
-      lists-full _ _ _ _ _ _ _ (step .propagate-off .result)
-      (advances-as (node .node-of .ensures) _ _ _ (step .propagate-off .result) (step .propagate-off .ensures .1)) (fertile .if2 .left)
+      lists-full _ _ _ _ _ _ _ (step .propagate-unless .result)
+      (advances-as (node .node-of .ensures) _ _ _ (step .propagate-unless .result) (step .propagate-unless .ensures .1)) (fertile .if2 .left)
       (u .result) (v .lowest2 .result) (u .ensures) (v .before .if3 .left) (v .lowest2 .ensures) _ (put .put-in .ensures)
       (first .list-below .result) _ (first .list-below .ensures) (c .if4 .taken)
 
@@ -126,8 +126,8 @@ module _ (t : ℕ) where
       let fertile = v .before .before .before .before in
       let step = fertile .before in
       let node = step .before .before .before .before .before in
-      lists-in _ _ _ _ _ _ _ (step .propagate-off .result)
-      (advances-as (node .node-of .ensures) _ _ _ (step .propagate-off .result) (step .propagate-off .ensures .1)) (fertile .if2 .left)
+      lists-in _ _ _ _ _ _ _ (step .propagate-unless .result)
+      (advances-as (node .node-of .ensures) _ _ _ (step .propagate-unless .result) (step .propagate-unless .ensures .1)) (fertile .if2 .left)
       (u .result) (v .lowest2 .result) (u .ensures) (v .before .if3 .left) (v .lowest2 .ensures) _ (put .put-in .ensures)
       (first .list-below .result) _ (first .list-below .ensures) _ (out .leave-out .ensures)
       (λ _. ahead .look-ahead .ensures (c .if5 .taken)) _
@@ -143,8 +143,8 @@ module _ (t : ℕ) where
       let fertile = v .before .before .before .before in
       let step = fertile .before in
       let node = step .before .before .before .before .before in
-      lists-both _ _ _ _ _ _ _ (step .propagate-off .result)
-      (advances-as (node .node-of .ensures) _ _ _ (step .propagate-off .result) (step .propagate-off .ensures .1)) (fertile .if2 .left)
+      lists-both _ _ _ _ _ _ _ (step .propagate-unless .result)
+      (advances-as (node .node-of .ensures) _ _ _ (step .propagate-unless .result) (step .propagate-unless .ensures .1)) (fertile .if2 .left)
       (u .result) (v .lowest2 .result) (u .ensures) (v .before .if3 .left) (v .lowest2 .ensures) _ (put .put-in .ensures)
       (first .list-below .result) _ (first .list-below .ensures) _ (out .leave-out .ensures) _ _ _ (second .list-below2 .ensures)
 

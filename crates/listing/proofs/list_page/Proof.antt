@@ -6,12 +6,16 @@ use lib.ListN.{length}
 use borrow.Author.Needs.{needs}
 use Rattle.signed_graph.specs.declared.SignedGraph.{SignedGraph}
 use Rattle.signed_graph.specs.declared.Check.{Check}
-use Rattle.signed_graph.specs.Calls.{numberOf, checkOf}
+use Rattle.signed_graph.specs.Calls.{checkNumber, checkOf}
 use Rattle.signed_graph.proofs.Calls.{accepted-sound}
-use Rattle.listing.specs.declared.Bookmark.{Bookmark}
-use Rattle.listing.specs.declared.Page.{Page}
-use Rattle.listing.specs.Pages.{answer}
-use Rattle.listing.specs.Calls.{dueGroups, pageBy, bytesBy, pageOf, pageBytes}
+use Rattle.signed_graph.specs.Thresholds.{Threshold}
+use Rattle.pages.specs.declared.Bookmark.{Bookmark}
+use Rattle.pages.specs.declared.Page.{Page}
+use Rattle.pages.specs.Pages.{answer}
+use Rattle.pages.specs.Pages.{pageBy, bytesBy}
+use Rattle.clique.specs.Listing.{itemSet}
+use Rattle.group_pages.specs.Records.{recordWidth, recordOf}
+use Rattle.group_pages.specs.Calls.{dueGroups, pageOf, pageBytes}
 use Rattle.listing.proofs.list_page.Statement.{statement}
 use Rattle.listing.proofs.list_page.Tie as tie
 
@@ -22,12 +26,12 @@ list-sound-requires c κs =
     accepted-sound (a .g) (a .k) (sym (k .check-call .ensures .0) ∙ c .before .enum-told .given .1)
 
 -- what the page answers and leaves in its buffer, by the check
-module _ (g : SignedGraph) (k : ℕ) (from : Bookmark) (out : List ℕ) {x : Check} (e : x ≡ checkOf g k) where
-  answered : pageBy x from (length out) (dueGroups g k from) ≡ pageOf g k from (length out)
-  answered = ap (λ (y : Check). pageBy y from (length out) (dueGroups g k from)) e
+module _ (g : SignedGraph) (k : Threshold) (from : Bookmark) (out : List ℕ) {x : Check} (e : x ≡ checkOf g k) where
+  answered : pageBy itemSet recordWidth x from (length out) (dueGroups g k from) ≡ pageOf g k from (length out)
+  answered = ap (λ (y : Check). pageBy itemSet recordWidth y from (length out) (dueGroups g k from)) e
 
-  wrote : bytesBy x (dueGroups g k from) out ≡ pageBytes g k from out
-  wrote = ap (λ (y : Check). bytesBy y (dueGroups g k from) out) e
+  wrote : bytesBy recordOf recordWidth x (dueGroups g k from) out ≡ pageBytes g k from out
+  wrote = ap (λ (y : Check). bytesBy recordOf recordWidth y (dueGroups g k from) out) e
 
 returns : tie.Need-returns
 returns c =
@@ -36,7 +40,7 @@ returns c =
     let told = sym (c .before .refusal .given .1) in
     let e = told ∙ k .check-call .ensures .0 in (
       answered (a .g) (a .k) (a .from) (a .out .now) e,
-      (wrote (a .g) (a .k) (a .from) (a .out .now) e, ap numberOf told ∙ k .check-call .ensures .1),
+      (wrote (a .g) (a .k) (a .from) (a .out .now) e, ap checkNumber told ∙ k .check-call .ensures .1),
     )
 
 returns-2 : tie.Need-returns-2
@@ -51,7 +55,7 @@ returns-2 c =
       h .answered ∙ answered (a .g) (a .k) (a .from) (a .out .now) e,
       (
         h .wrote ∙ wrote (a .g) (a .k) (a .from) (a .out .now) e,
-        ap numberOf (ap (λ (p : Page). p .outcome) (h .answered) ∙ told) ∙ k .check-call .ensures .1,
+        ap checkNumber (ap (λ (p : Page). p .outcome) (h .answered) ∙ told) ∙ k .check-call .ensures .1,
       ),
     )
 

@@ -1,0 +1,2 @@
+pub mod Matrices
+pub mod Transposition

@@ -1,0 +1,120 @@
+// The calls about graphs on arrays: a new graph, the checks, edge lists, the reduction.
+use edge_list::Outcome;
+use signed_graph::SignedGraph;
+ghost use mathlib.Core.Path.{_≡_};
+ghost use Prim.Native.Nat.{min};
+ghost use Rattle.c_graphs.specs.Answers.{outcomeNumber, outcomePlace};
+ghost use Rattle.c_graphs.specs.Calls.{newReturns, newGraph, checkSoundReturns, checkCallReturns, decodeReturns, decodeGraph, decodeAnswer, encodeReturns, encodeBuffer, encodeAnswer, reduceReturns, reduceGraph};
+
+// The shorter of two lengths.
+fn shorter(a: usize, b: usize) -> usize
+    ensures { λ r. ⌜ r ≡ min a b ⌝ }
+{
+    if a < b { a } else { b }
+}
+
+fn outcome_number(outcome: Outcome) -> u64
+    ensures { λ r. ⌜ r ≡ outcomeNumber outcome ⌝ }
+{
+    match outcome {
+        Outcome::Accepted => 0,
+        Outcome::Refused(fault) => fault.number(),
+    }
+}
+
+// The place of a fault; 0 where there is none.
+fn outcome_place(outcome: Outcome) -> u64
+    ensures { λ r. ⌜ r ≡ outcomePlace outcome ⌝ }
+{
+    match outcome {
+        Outcome::Accepted => 0,
+        Outcome::Refused(fault) => fault.place() as u64,
+    }
+}
+
+// Writes the graph of n vertices with no edge; of no vertices for n over 64.
+pub fn new(n: u64, graph: &mut [u64]) -> u64
+    ensures number { λ r. ⌜ r ≡ newReturns (now (graph .entry)) ⌝ }
+    ensures words { λ r. ⌜ now (graph .exit) ≡ newGraph n (now (graph .entry)) ⌝ }
+{
+    let own = c_words::graph_refusal(graph.len());
+    if own != 0 {
+        return own;
+    }
+    c_words::put_graph(SignedGraph::new(n), graph);
+    0
+}
+
+// Whether the graph is sound.
+pub fn check_sound(graph: &[u64]) -> u64
+    ensures number { λ r. ⌜ r ≡ checkSoundReturns (now (graph .entry)) ⌝ }
+{
+    let own = c_words::graph_refusal(graph.len());
+    if own != 0 {
+        return own;
+    }
+    if signed_graph::is_sound(c_words::graph_at(graph)) {
+        return 0;
+    }
+    10
+}
+
+// Whether a call on the graph with threshold k is refused.
+pub fn check_call(graph: &[u64], k: u64) -> u64
+    ensures number { λ r. ⌜ r ≡ checkCallReturns (now (graph .entry)) k ⌝ }
+{
+    let own = c_words::graph_refusal(graph.len());
+    if own != 0 {
+        return own;
+    }
+    c_words::check_number(signed_graph::check_call(c_words::graph_at(graph), k))
+}
+
+// Writes the graph of an edge list, and the place of its fault.
+pub fn decode(bytes: &[u8], graph: &mut [u64], answer: &mut [u64]) -> u64
+    ensures number { λ r. ⌜ r ≡ decodeReturns (now (bytes .entry)) (now (graph .entry)) (now (answer .entry)) ⌝ }
+    ensures words { λ r. ⌜ now (graph .exit) ≡ decodeGraph (now (bytes .entry)) (now (graph .entry)) (now (answer .entry)) ⌝ }
+    ensures place { λ r. ⌜ now (answer .exit) ≡ decodeAnswer (now (bytes .entry)) (now (graph .entry)) (now (answer .entry)) ⌝ }
+{
+    let own = c_words::own_refusal(graph.len(), answer.len(), 1);
+    if own != 0 {
+        return own;
+    }
+    let decoded = edge_list::decode(bytes);
+    c_words::put_graph(decoded.graph, graph);
+    let outcome = decoded.outcome;
+    let words = [outcome_place(outcome)];
+    c_words::put_words(&words, answer);
+    outcome_number(outcome)
+}
+
+// Writes the canonical edge list of the graph, and its length.
+pub fn encode(graph: &[u64], out: &mut [u8], answer: &mut [u64]) -> u64
+    ensures number { λ r. ⌜ r ≡ encodeReturns (now (graph .entry)) (now (out .entry)) (now (answer .entry)) ⌝ }
+    ensures bytes { λ r. ⌜ now (out .exit) ≡ encodeBuffer (now (graph .entry)) (now (out .entry)) (now (answer .entry)) ⌝ }
+    ensures size { λ r. ⌜ now (answer .exit) ≡ encodeAnswer (now (graph .entry)) (now (out .entry)) (now (answer .entry)) ⌝ }
+{
+    let own = c_words::own_refusal(graph.len(), answer.len(), 1);
+    if own != 0 {
+        return own;
+    }
+    let encoded = canonical::encode(c_words::graph_at(graph), out);
+    let words = [encoded.length() as u64];
+    c_words::put_words(&words, answer);
+    encoded.number()
+}
+
+// Writes the graph reduced for threshold k.
+pub fn reduce(graph: &[u64], k: u64, reduced: &mut [u64]) -> u64
+    ensures number { λ r. ⌜ r ≡ reduceReturns (now (graph .entry)) k (now (reduced .entry)) ⌝ }
+    ensures words { λ r. ⌜ now (reduced .exit) ≡ reduceGraph (now (graph .entry)) k (now (reduced .entry)) ⌝ }
+{
+    let own = c_words::graph_refusal(shorter(graph.len(), reduced.len()));
+    if own != 0 {
+        return own;
+    }
+    let answer = reduction::reduce(c_words::graph_at(graph), k);
+    c_words::put_graph(answer.graph, reduced);
+    let outcome = answer.outcome;
+    c_words::check_number(outcome)
+}

@@ -1,0 +1,78 @@
+-- The two round trips: what is encoded decodes to its graph, and what is decoded encodes to its one canonical form. Assumes nothing.
+use Prim.Native.Nat.{ℕ, _≤_}
+use mathlib.Core.Path.{_≡_, refl, sym, ap, ap₂, _∙_, subst}
+use mathlib.Core.Bool.{true, false, not}
+use mathlib.Core.List.{List}
+use lib.Dec.{ltb}
+use lib.ListN.{length, take}
+use lib.Seq.{take-append-seam}
+use borrow.Author.Tests.{le-ltb}
+use Rattle.vertex_set.proofs.Alternatives.{passes-by}
+use Rattle.signed_graph.specs.declared.SignedGraph.{SignedGraph}
+use Rattle.signed_graph.specs.Soundness.{sound}
+use Rattle.signed_graph.proofs.Soundness.{Sound, to-sound}
+use Rattle.edge_list.specs.declared.Sign.{Sign}
+use Rattle.edge_list.specs.declared.Sign.the-variants.{Positive, Negative}
+use Rattle.edge_list.specs.Edges.{givenAs}
+use Rattle.edge_list.specs.Acceptance.{EdgeListOf}
+use Rattle.edge_list.specs.Decoding.{accepted, decoded}
+use Rattle.canonical.specs.Canonical.{CanonicalForm, orderedEdges, canonical}
+use Rattle.canonical.specs.Encoding.{encoded, buffered, encodedLength}
+use Rattle.edge_list.proofs.Answers.{accepted-words, list-accepted, accepted-sound, accepted-positive, accepted-negative}
+use Rattle.canonical.proofs.Canonical.{edges-ordered, edges-given, edges-graph, edges-proper, one-form}
+
+-- ---- the canonical form is an edge list of its graph
+
+canonical-accepted : (g : SignedGraph) → sound g ≡ true → decoded (canonical g) ≡ accepted g
+canonical-accepted g e =
+    let h : Sound g = to-sound g e in
+    list-accepted (g .n) (orderedEdges g) (h .small) (edges-proper g) ∙ ap accepted (edges-graph g h)
+
+-- ---- and the canonical form of every list that gives this graph
+
+canonical-form : {bytes : List ℕ} {g : SignedGraph} (w : EdgeListOf bytes g) → CanonicalForm (g .n) (w .edges) (canonical g)
+canonical-form {bytes} {g} w =
+    record { edges = orderedEdges g; ordered = edges-ordered g; spelled = refl; same = same }
+  where
+    h : Sound g
+    h = to-sound g (accepted-sound w)
+
+    same : (s : Sign) (p q : ℕ) → givenAs s (orderedEdges g) p q ≡ givenAs s (w .edges) p q
+    same Positive p q = edges-given g h Positive p q ∙ accepted-positive w p q
+    same Negative p q = edges-given g h Negative p q ∙ accepted-negative w p q
+
+-- lists of the same edges, in any order and either way round, have one canonical form
+pub same-form : {a b : List ℕ} {g h : SignedGraph} (v : EdgeListOf a g) (w : EdgeListOf b h) → g .n ≡ h .n
+    → ((s : Sign) (p q : ℕ) → givenAs s (v .edges) p q ≡ givenAs s (w .edges) p q) → canonical g ≡ canonical h
+same-form {a} {b} {g} {h} v w e same =
+    one-form (h .n) (v .edges) (w .edges) (canonical g) (canonical h)
+    (subst (λ (m : ℕ). CanonicalForm m (v .edges) (canonical g)) e (canonical-form v)) (canonical-form w) same
+
+-- ---- what `encode` wrote
+
+-- the bytes that a call wrote, by its answer and the buffer behind it
+abbrev pub writtenBy : SignedGraph → List ℕ → List ℕ
+writtenBy g out = take (encodedLength (encoded g (length out))) (buffered g out)
+
+module _ (g : SignedGraph) (out : List ℕ) (e : sound g ≡ true) (room : length (canonical g) ≤ length out) where
+  writes-canonical : writtenBy g out ≡ canonical g
+  unfolding encoded buffered
+  writes-canonical =
+      ap₂ (λ (k : ℕ) (l : List ℕ). take k l)
+      (ap encodedLength (passes-by (not (sound g)) _ _ (ap not e) ∙ passes-by (ltb (length out) (length (canonical g))) _ _ fits))
+      (passes-by (not (sound g)) _ _ (ap not e) ∙ passes-by (ltb (length out) (length (canonical g))) _ _ fits)
+      ∙ take-append-seam (canonical g) _
+    where
+      fits : ltb (length out) (length (canonical g)) ≡ false
+      fits = le-ltb (length out) (length (canonical g)) room
+
+  -- what is encoded decodes to its graph
+  pub encode-decode : decoded (writtenBy g out) ≡ accepted g
+  encode-decode = ap decoded writes-canonical ∙ canonical-accepted g e
+
+-- what is decoded encodes to the canonical form of the list
+pub decode-encode : (bytes : List ℕ) (g : SignedGraph) (out : List ℕ) (e : decoded bytes ≡ accepted g) → length (canonical g) ≤ length out
+    → CanonicalForm (g .n) (accepted-words bytes g e .edges) (writtenBy g out)
+decode-encode bytes g out e room =
+    let w : EdgeListOf bytes g = accepted-words bytes g e in
+    subst (CanonicalForm (g .n) (w .edges)) (sym (writes-canonical g out (accepted-sound w) room)) (canonical-form w)

@@ -1,0 +1,3 @@
+pub mod Calls
+pub mod Filling
+pub mod Records

@@ -1,0 +1,2 @@
+pub mod BarrenBranches
+pub mod Lacking

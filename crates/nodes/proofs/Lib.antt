@@ -1,0 +1,7 @@
+pub mod Nodes
+pub mod Falling
+pub mod Below
+pub mod Prunes
+pub mod Leaves
+pub mod DueGroups
+pub mod ConflictSets

@@ -1,0 +1,4 @@
+pub mod Bookmarks
+pub mod Filling
+pub mod PageLists
+pub mod Pages

@@ -1,0 +1,4 @@
+pub mod Advances
+pub mod FreeVertices
+pub mod Settling
+pub mod SoleConflicts
