@@ -1,4 +1,4 @@
--- Bounds on the size of the balanced sets that keep their sides within given vertices. Assumes nothing.
+-- For proofs: bounds on the size of the balanced sets that keep their sides within given vertices. Assumes nothing.
 use Prim.Native.Nat.{ℕ, _+_, _-_, _^_, _≤_, _<_}
 use mathlib.Core.Path.{_≡_}
 use mathlib.Core.Logic.{_≢_}

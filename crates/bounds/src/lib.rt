@@ -86,7 +86,7 @@ fn colours_within<'a>(
 }
 
 // True only where no balanced set with its sides within these has more than `room` vertices, by the table at the lowest vertex or
-// by colours; false only where there is a vertex.
+// by colours. Where it is false, there is a vertex.
 pub fn is_bounded<'a>(
     left: u64,
     right: u64,

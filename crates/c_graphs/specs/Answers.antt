@@ -1,14 +1,8 @@
 -- Answers of the calls about graphs as numbers. Assumes nothing.
 use Prim.Native.Nat.{ℕ}
-use mathlib.Core.Bool.{Bool, true, false}
 use Rattle.edge_list.specs.declared.Outcome.{Outcome}
 use Rattle.edge_list.specs.declared.Outcome.the-variants as outcome
 use Rattle.edge_list.specs.Faults as faults
-
--- 10 where a graph is not sound
-abbrev pub soundBy : Bool → ℕ
-soundBy true = 0
-soundBy false = 10
 
 -- the number of a fault of an edge list and its place; 0 where there is none
 abbrev pub outcomeNumber : Outcome → ℕ

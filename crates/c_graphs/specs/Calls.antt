@@ -3,14 +3,13 @@ use Prim.Native.Nat.{ℕ, min}
 use mathlib.Core.List.{List, [], _∷_}
 use lib.ListN.{length}
 use Rattle.signed_graph.specs.Graphs.{edgeless}
-use Rattle.signed_graph.specs.Soundness.{sound}
-use Rattle.signed_graph.specs.Calls.{refusalNumber}
+use Rattle.signed_graph.specs.Calls.{graphNumber, refusalNumber}
 use Rattle.reduction.specs.Reductions.{reduced}
 use Rattle.edge_list.specs.Decoding.{decoded}
 use Rattle.canonical.specs.Encoding.{encoded, buffered, encodedNumber, encodedLength}
 use Rattle.c_words.specs.Graphs.{graphAt, wordsOf}
 use Rattle.c_words.specs.Refusals.{graphRefusal, ownRefusal, unlessRefused, numberAfter, wordsAfter}
-use Rattle.c_graphs.specs.Answers.{soundBy, outcomeNumber, outcomePlace}
+use Rattle.c_graphs.specs.Answers.{outcomeNumber, outcomePlace}
 
 -- ---- new
 
@@ -23,7 +22,7 @@ newGraph n graph = wordsAfter (graphRefusal (length graph)) (wordsOf (edgeless n
 -- ---- soundness, and the check of a call
 
 abbrev pub checkSoundReturns : List ℕ → ℕ
-checkSoundReturns graph = numberAfter (graphRefusal (length graph)) (soundBy (sound (graphAt graph)))
+checkSoundReturns graph = numberAfter (graphRefusal (length graph)) (graphNumber (graphAt graph))
 
 abbrev pub checkCallReturns : List ℕ → ℕ → ℕ
 checkCallReturns graph k = numberAfter (graphRefusal (length graph)) (refusalNumber (graphAt graph) k)

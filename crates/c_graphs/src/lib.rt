@@ -53,10 +53,7 @@ pub fn check_sound(graph: &[u64]) -> u64
     if own != 0 {
         return own;
     }
-    if signed_graph::is_sound(c_words::graph_at(graph)) {
-        return 0;
-    }
-    10
+    c_words::check_number(signed_graph::check_graph(c_words::graph_at(graph)))
 }
 
 // Whether a call on the graph with threshold k is refused.

@@ -18,7 +18,7 @@ use Rattle.vertex_set.proofs.Lists.{all-mem, mem-all, sorted-unique, any-mem, m
 use Rattle.vertex_set.proofs.Gathering.{gather-mem, mem-gather, gather-sorted}
 use Rattle.signed_graph.specs.declared.SignedGraph.{SignedGraph}
 use Rattle.bit_matrix.specs.Matrices.{tableOf}
-use Rattle.signed_graph.specs.Graphs.{positiveEdge, negativeEdge}
+use Rattle.signed_graph.specs.Graphs.{withTables, positiveEdge, negativeEdge}
 use Rattle.bit_matrix.proofs.Matrices.{table-is}
 use Rattle.signed_graph.proofs.Soundness.{Sound, Table, partner-below}
 use Rattle.edge_list.specs.declared.Sign.{Sign}
@@ -26,7 +26,7 @@ use Rattle.edge_list.specs.declared.Sign.the-variants.{Positive, Negative}
 use Rattle.edge_list.specs.Edges.{Edge, link, sameSign, joins, joinsAs, given, givenAs, proper, graphOfEdges, listOf}
 use Rattle.canonical.specs.Canonical.{lowerFirst, before, Ordered, CanonicalForm, edgeBy, edgeBetween, edgesAbove, orderedEdges}
 use Rattle.edge_list.proofs.Edges.{joins-cases, as-comm, proper-cons}
-use Rattle.edge_list.proofs.Tables.{same-self}
+use Rattle.edge_list.proofs.Tables.{sign-self}
 
 -- g has an edge of that sign
 abbrev pub edgeAs : Sign → SignedGraph → ℕ → ℕ → Bool
@@ -123,7 +123,7 @@ sign-same Negative Negative e = refl
 -- an edge joins its own vertices
 joins-own : (s : Sign) (a b : ℕ) → joinsAs s a b (link s a b) ≡ true
 joins-own s a b =
-    and-intro (sameSign s s) (joins a b (link s a b)) (same-self s)
+    and-intro (sameSign s s) (joins a b (link s a b)) (sign-self s)
     (or-left (eqb a a && eqb b b) (eqb a b && eqb b a) (and-intro (eqb a a) (eqb b b) (eq-eqb a a refl) (eq-eqb b b refl)))
 
 module _ (g : SignedGraph) (h : Sound g) where
@@ -181,7 +181,7 @@ module _ (g : SignedGraph) (h : Sound g) where
 
   pub edges-graph : graphOfEdges (g .n) (orderedEdges g) ≡ g
   edges-graph =
-      sym (ap₂ (λ (x y : List ℕ). record { n = g .n; positive = x; negative = y })
+      sym (ap₂ (withTables g)
       (table Positive (g .positive) (h .positives) (λ p q. sym (edges-given Positive p q)))
       (table Negative (g .negative) (h .negatives) (λ p q. sym (edges-given Negative p q))))
     where

@@ -1,4 +1,5 @@
-// The calls that demand 3 speaks of. Each does what the call of its name does, and ensures what the theorem asks of it.
+// The calls that demand 3 speaks of. Each does what the call of its name does, and ensures what the theorem asks of it. Nothing
+// calls them: they tie the theorem to the calls.
 use edge_list::Decoded;
 use largest::LargestGroup;
 use pages::Bookmark;

@@ -10,9 +10,8 @@ use lib.Dec.{leb, ltb}
 use lib.ListN.{getD}
 use borrow.Author.Tests.{ltb-true, ltb-false, lt-ltb, le-ltb}
 use Rattle.vertex_set.specs.Lists.{All}
-use Rattle.vertex_set.specs.Sets.{mem, Subset, size, lowest}
+use Rattle.vertex_set.specs.Sets.{size, lowest}
 use Rattle.vertex_set.proofs.Lists.{mem-all}
-use Rattle.vertex_set.proofs.Membership.{union-cases}
 use Rattle.vertex_set.proofs.Sizes.{size-none}
 use Rattle.signed_graph.specs.declared.SignedGraph.{SignedGraph}
 use Rattle.signed_graph.specs.Graphs.{vertices, withTables}
@@ -29,7 +28,7 @@ use Rattle.clique.specs.Listing.{Item, listing, sizeOf}
 use Rattle.pages.specs.Pages.{due}
 use Rattle.group_pages.specs.Calls.{dueGroups}
 use Rattle.largest.specs.Largest.{larger, largestOf, largestOrNone, largestGroupBy, largestGroup, largestNumberBy, largestNumber}
-use Rattle.nodes.specs.Nodes.{chosen, undecided, rootOf, putIn, leaveOut, withVertex, Valid, Same, leafItem, groupAt}
+use Rattle.nodes.specs.Nodes.{chosen, undecided, rootOf, putIn, leaveOut, withVertex, Same, leafItem, groupAt}
 use Rattle.signed_graph.specs.Tables.{ForSound}
 use Rattle.signed_graph.specs.Thresholds.{Threshold}
 use Rattle.nodes.specs.Below.{dueBelow, leafItems}
@@ -39,6 +38,7 @@ use Rattle.largest.specs.Bests.{bestItem, better, bestOf, Finds}
 use Rattle.clique.proofs.Listing.{listing-sorted, listing-exact}
 use Rattle.largest.proofs.LargestOf.{largest-found}
 use Rattle.nodes.proofs.Below.{of-below}
+use Rattle.nodes.proofs.Nodes.{undecided-usable, same-self}
 use Rattle.nodes.proofs.Leaves.{root-valid}
 use Rattle.largest.proofs.SizesBelow.{none-larger-below}
 use Rattle.nodes.proofs.DueGroups.{leaf-there, leaf-other, due-listed, none-due, leaf-due, step-in, step-out, step-due, all-due}
@@ -107,14 +107,6 @@ module _ (k : Threshold) (d : Node) (b : Best) where
 
 -- ---- a node
 
-undecided-usable : {g : SignedGraph} (d : Node) → Valid g d → Subset (undecided d) (vertices g)
-undecided-usable {g} d va p m =
-    union-cases (mem p (vertices g) ≡ true) p (d .left .candidates) (d .right .candidates) m
-    (λ x. va .left .candidate p x .usable) (λ x. va .right .candidate p x .usable)
-
-same-refl : {g : SignedGraph} {k : Threshold} {d : Node} → Valid g d → Same g k d d
-same-refl va = record { valid = va; to = λ x _ b. b; from = λ x _ b. b }
-
 pub finds-as : {top d : Node} → top ≡ d → (table positive negative : List ℕ) (k : Threshold) (b r : Best)
     → Finds table positive negative k top b r → Finds table positive negative k d b r
 finds-as is table positive negative k b r = subst (λ (e : Node). Finds table positive negative k e b r) is
@@ -138,7 +130,7 @@ module _ (table positive negative : List ℕ) (k : Threshold) (d : Node) (b : Be
   pub finds-leaf : (after : Best) (u : ℕ) → u ≡ undecided d → u ≡ 0 → after ≡ bestOf b (leafItems k Start d)
       → Finds table positive negative k d b after
   finds-leaf after u is-u done is any so va _ =
-      is ∙ ap (bestOf b) (sym (leaf-due _ (to-sound _ so) k Start (same-refl va) (sym is-u ∙ done)))
+      is ∙ ap (bestOf b) (sym (leaf-due _ (to-sound _ so) k Start (same-self _ _ d va) (sym is-u ∙ done)))
 
   pub finds-both : (u v : ℕ) → u ≡ undecided d → (u ≡ 0 → ⊥) → v ≡ lowest u
       → (in-child : Node) → in-child ≡ putIn d v (getD positive v 0) (getD negative v 0)
@@ -148,7 +140,7 @@ module _ (table positive negative : List ℕ) (k : Threshold) (d : Node) (b : Be
   finds-both u v is-u some-u is-v in-child in-is first one out-child out-is after two any so va bounds =
       let g = withTables any positive negative in
       let gs = to-sound g so in
-      let s : Same g k d d = same-refl va in
+      let s : Same g k d d = same-self _ _ d va in
       let is = is-v ∙ ap lowest is-u in
       let pos : 0 < undecided d = omega (arith, some-u) in
       let A = dueBelow g k Start (withVertex g d v) in

@@ -172,7 +172,8 @@ fn largest_below<'a>(
     best: Best,
     idle: u64,
 ) -> Hunt
-    ensures { λ r. ⌜ Finds (now (table .entry)) (now (positive .entry)) (now (negative .entry)) k (nodeOf «left_chosen» «left_candidates» «left_excluded» «right_chosen» «right_candidates» «right_excluded») best (r .best) ⌝ }
+    ensures { λ r. ⌜ Finds (now (table .entry)) (now (positive .entry)) (now (negative .entry)) k
+        (nodeOf «left_chosen» «left_candidates» «left_excluded» «right_chosen» «right_candidates» «right_excluded») best (r .best) ⌝ }
 {
     if none_larger_at_once(
         left_chosen | right_chosen,

@@ -56,7 +56,9 @@ fn list_below<'a>(
     tally: Tally,
     out: &mut [u8],
 ) -> Tally
-    ensures { λ r. ⌜ Lists (now (positive .entry)) (now (negative .entry)) k from (nodeOf «left_chosen» «left_candidates» «left_excluded» «right_chosen» «right_candidates» «right_excluded») tally (now (out .entry)) r (now (out .exit)) ⌝ }
+    ensures { λ r. ⌜ Lists (now (positive .entry)) (now (negative .entry)) k from
+        (nodeOf «left_chosen» «left_candidates» «left_excluded» «right_chosen» «right_candidates» «right_excluded») tally
+        (now (out .entry)) r (now (out .exit)) ⌝ }
 {
     let at = nodes::node_of(
         left_chosen,

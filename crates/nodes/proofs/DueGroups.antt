@@ -7,7 +7,6 @@ use Rattle.vertex_set.specs.Lists.{select, Sorted}
 use Rattle.vertex_set.specs.Sets.{mem, lowest}
 use Rattle.vertex_set.proofs.Booleans.{clash, cases, and-intro, fails-left, fails-right}
 use Rattle.vertex_set.proofs.Lists.{selected, select-from, select-keeps, sorted-select}
-use Rattle.vertex_set.proofs.Membership.{union-cases}
 use Rattle.vertex_set.proofs.LowestVertex.{lowest-lt, lowest-in, lowest-le, lowest-least}
 use Rattle.signed_graph.specs.declared.SignedGraph.{SignedGraph}
 use Rattle.signed_graph.specs.Graphs.{vertices}
@@ -25,7 +24,7 @@ use Rattle.nodes.specs.Nodes.{chosen, undecided, rootOf, leaveOut, withV
 use Rattle.nodes.specs.Below.{dueBelow, leafItems}
 use Rattle.clique.proofs.Listing.{listing-sorted, listing-exact}
 use Rattle.pages.proofs.Bookmarks.{due-select}
-use Rattle.nodes.proofs.Nodes.{put-valid, out-valid}
+use Rattle.nodes.proofs.Nodes.{put-valid, out-valid, undecided-usable}
 use Rattle.nodes.proofs.Below.{of-below, in-below, below-sorted, below-is, none-below, below-agrees, below-step}
 use Rattle.nodes.proofs.Leaves.{leaf-group, leaf-one, leaf-none, leaf-not-group, root-below}
 
@@ -105,9 +104,7 @@ module _ (g : SignedGraph) (so : Sound g) (k : Threshold) (m : Bookmark) where
     module _ (v : ℕ) (is : v ≡ lowest (undecided e)) (some : 0 < undecided e) where
       undecided-64 : undecided e < 2 ^ 64
       undecided-64 =
-          usable-64 g so (undecided e) (λ p i.
-          union-cases (mem p (vertices g) ≡ true) p (e .left .candidates) (e .right .candidates) i
-          (λ x. s .valid .left .candidate p x .usable) (λ x. s .valid .right .candidate p x .usable))
+          usable-64 g so (undecided e) (undecided-usable e (s .valid))
 
       small : v < 64
       small = subst (λ (z : ℕ). z < 64) (sym is) (lowest-lt (undecided e) some undecided-64)

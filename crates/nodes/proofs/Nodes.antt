@@ -13,11 +13,12 @@ use Rattle.vertex_set.proofs.Membership.{none-in, meet-in, meet-left, meet-righ
 use Rattle.vertex_set.proofs.Collections.{mem-single}
 use Rattle.signed_graph.specs.declared.SignedGraph.{SignedGraph}
 use Rattle.signed_graph.specs.Graphs.{positiveEdge, negativeEdge, vertices}
+use Rattle.signed_graph.specs.Thresholds.{Threshold}
 use Rattle.signed_graph.proofs.Soundness.{Sound}
 use Rattle.clique.proofs.Balance.{usable-64}
 use Rattle.nodes.specs.declared.Side.{Side}
 use Rattle.nodes.specs.declared.Node.{Node}
-use Rattle.nodes.specs.Nodes.{reach, chosen, undecided, reachable, narrowed, sideWith, passedOver, putLeft, putRight, putIn, leaveOut, withVertex, CanJoin, Half, Stage, untouched, led, Valid}
+use Rattle.nodes.specs.Nodes.{reach, chosen, undecided, reachable, narrowed, sideWith, passedOver, putLeft, putRight, putIn, leaveOut, withVertex, CanJoin, Half, Stage, untouched, led, Valid, Same}
 use Rattle.signed_graph.specs.Tables.{positives, negatives}
 use Rattle.clique.specs.Balance.{Parts}
 use Rattle.vertex_set.proofs.Singles.{single-is, joined-in, joined-cases, others-keep, others-lack}
@@ -304,3 +305,13 @@ module _ (g : SignedGraph) (so : Sound g) where
             right = half-out (d .right) (d .left .chosen) (h .right);
             stage = out-stage (h .stage);
           }
+
+-- ---- what is undecided, and a node itself
+
+pub undecided-usable : {g : SignedGraph} (d : Node) → Valid g d → Subset (undecided d) (vertices g)
+undecided-usable {g} d va p m =
+    union-cases (mem p (vertices g) ≡ true) p (d .left .candidates) (d .right .candidates) m
+    (λ x. va .left .candidate p x .usable) (λ x. va .right .candidate p x .usable)
+
+pub same-self : (g : SignedGraph) (k : Threshold) (d : Node) → Valid g d → Same g k d d
+same-self g k d va = record { valid = va; to = λ x lx b. b; from = λ x lx b. b }

@@ -21,8 +21,9 @@ use Rattle.propagation.specs.declared.Progress.{Progress}
 use Rattle.nodes.specs.Nodes.{undecided, short, Valid, Universal, on-left, on-right, Sole, Same}
 use Rattle.nodes.specs.Below.{InSound}
 use Rattle.propagation.specs.Propagation.{FreeSides, Requires, HeldByAll, Settles, Advances}
+use Rattle.nodes.proofs.Nodes.{same-self}
 use Rattle.nodes.proofs.Prunes.{short-barren, dominated-left, dominated-right, universal-held, required-left, required-right}
-use Rattle.propagation.proofs.Settling.{same-self, same-then}
+use Rattle.propagation.proofs.Settling.{same-then}
 
 -- ---- what every group below holds
 

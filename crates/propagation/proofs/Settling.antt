@@ -14,7 +14,7 @@ use Rattle.signed_graph.specs.Thresholds.{Threshold}
 use Rattle.nodes.specs.declared.Node.{Node}
 use Rattle.nodes.specs.Nodes.{undecided, putIn, putInIfOpen, withVertex, Stage, untouched, led, Valid, Held, Same}
 use Rattle.propagation.specs.Propagation.{Settles}
-use Rattle.nodes.proofs.Nodes.{put-cases, put-valid}
+use Rattle.nodes.proofs.Nodes.{put-cases, put-valid, same-self}
 use Rattle.nodes.proofs.Falling.{put-fewer}
 use Rattle.nodes.proofs.Below.{below-put, put-below}
 
@@ -38,9 +38,6 @@ unfolding putInIfOpen
 open-stay d v positive negative e = ap (λ (b : Bool). elim b [ true ↦ putIn d v positive negative | false ↦ d ]) e
 
 -- ---- what stays
-
-pub same-self : (g : SignedGraph) (k : Threshold) (d : Node) → Valid g d → Same g k d d
-same-self g k d va = record { valid = va; to = λ x lx b. b; from = λ x lx b. b }
 
 pub same-then : {g : SignedGraph} {k : Threshold} {d e f : Node} → Same g k d e → Same g k e f → Same g k d f
 same-then s t =
