@@ -10,7 +10,7 @@ use lib.ListN.{length, take, drop, length-drop}
 use lib.Seq.{length-take-le}
 use borrow.Author.Tests.{leb-true}
 use Rattle.vertex_set.specs.Buffers.{overwritten}
-use Rattle.group_pages.specs.Records.{recordAt}
+use Rattle.group_pages.specs.Records.{recordWidth, recordAt}
 use Rattle.c_pages.specs.Answers.{placeBy, recordWords, partAt}
 
 -- where a record stands is told by two words
@@ -20,7 +20,7 @@ place-length false i = refl
 
 pub record-length : (bytes i : ℕ) → length (recordWords bytes i) ≡ 2
 unfolding recordWords
-record-length bytes i = place-length (leb (16 * i + 16) bytes) i
+record-length bytes i = place-length (leb (recordWidth * i + recordWidth) bytes) i
 
 -- they tell the same at the front of an array
 pub part-front : (listing words out : List ℕ) → length words ≡ 2 → partAt listing (overwritten words out) ≡ partAt listing words
@@ -36,26 +36,26 @@ Tells listing i words = (words ≡ recordWords (length listing) i) × (partAt li
 module _ (listing : List ℕ) (i : ℕ) where
   -- the record, by whether it is wholly there
   abbrev by : Bool → List ℕ
-  by b = elim b [ true ↦ take 16 (drop (16 * i) listing) | false ↦ [] ]
+  by b = elim b [ true ↦ take recordWidth (drop (recordWidth * i) listing) | false ↦ [] ]
 
   -- one that has a byte is
-  pub record-tells : length (recordAt listing i) ≢ 0 → (16 * i + 16 ≤ length listing) × Tells listing i (16 * i ∷ 16 ∷ [])
+  pub record-tells : length (recordAt listing i) ≢ 0 → (recordWidth * i + recordWidth ≤ length listing) × Tells listing i (recordWidth * i ∷ recordWidth ∷ [])
   unfolding recordAt recordWords
-  record-tells d = go (leb (16 * i + 16) (length listing)) refl
+  record-tells d = go (leb (recordWidth * i + recordWidth) (length listing)) refl
     where
-      go : (b : Bool) → leb (16 * i + 16) (length listing) ≡ b
-          → (16 * i + 16 ≤ length listing) × Tells listing i (16 * i ∷ 16 ∷ [])
+      go : (b : Bool) → leb (recordWidth * i + recordWidth) (length listing) ≡ b
+          → (recordWidth * i + recordWidth ≤ length listing) × Tells listing i (recordWidth * i ∷ recordWidth ∷ [])
       go true e = (leb-true _ _ e, (ap (λ (x : Bool). placeBy x i) (sym e), ap by (sym e)))
       go false e = absurd (d (ap (λ (x : Bool). length (by x)) e))
 
   -- one that has none is not
   pub none-tells : length (recordAt listing i) ≡ 0 → Tells listing i (0 ∷ 0 ∷ [])
   unfolding recordAt recordWords
-  none-tells z = go (leb (16 * i + 16) (length listing)) refl
+  none-tells z = go (leb (recordWidth * i + recordWidth) (length listing)) refl
     where
-      go : (b : Bool) → leb (16 * i + 16) (length listing) ≡ b → Tells listing i (0 ∷ 0 ∷ [])
+      go : (b : Bool) → leb (recordWidth * i + recordWidth) (length listing) ≡ b → Tells listing i (0 ∷ 0 ∷ [])
       go true e =
-          let there = leb-true (16 * i + 16) (length listing) e in
-          let long = length-take-le 16 (drop (16 * i) listing) (omega (arith, there, length-drop (16 * i) listing)) in
+          let there = leb-true (recordWidth * i + recordWidth) (length listing) e in
+          let long = length-take-le recordWidth (drop (recordWidth * i) listing) (omega (arith, there, length-drop (recordWidth * i) listing)) in
           let is = ap (λ (x : Bool). length (by x)) e in absurd (omega (arith, long, is, z))
       go false e = (ap (λ (x : Bool). placeBy x i) (sym e), ap by (sym e))

@@ -57,10 +57,10 @@ passedOver s v =
 
 -- the node with these chosen, candidates and excluded of the left and of the right
 abbrev pub nodeOf : ℕ → ℕ → ℕ → ℕ → ℕ → ℕ → Node
-nodeOf lchosen lcandidates lexcluded rchosen rcandidates rexcluded =
+nodeOf left-chosen left-candidates left-excluded right-chosen right-candidates right-excluded =
     record {
-      left = record { chosen = lchosen; candidates = lcandidates; excluded = lexcluded };
-      right = record { chosen = rchosen; candidates = rcandidates; excluded = rexcluded };
+      left = record { chosen = left-chosen; candidates = left-candidates; excluded = left-excluded };
+      right = record { chosen = right-chosen; candidates = right-candidates; excluded = right-excluded };
     }
 
 -- where the search starts: these vertices are undecided, and nothing is chosen or left out
