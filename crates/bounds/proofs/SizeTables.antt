@@ -175,3 +175,7 @@ module _ (n : ℕ) (positive negative : List ℕ) where
   tabling-end {table} {above} {most} h z any so e =
       tabled-end _ (to-sound _ so)
       (subst (λ (x : ℕ). TabledFrom (withTables any positive negative) table x above most) z (h .bounds any so e))
+
+  -- no sound graph has more than 64 vertices
+  pub tabled-none : (table : List ℕ) → 64 < n → SizeTable n positive negative table
+  tabled-none table many any so e = absurd (let small = to-sound _ so .small in omega arith)

@@ -295,10 +295,12 @@ fn bound_from<'a>(
 
 // For each of n vertices, a bound on the size of the balanced sets among the vertices from it up.
 pub fn size_table<'a>(n: u64, positive: &'a [u64; 64], negative: &'a [u64; 64]) -> [u64; 64]
-    requires { ⌜ n ≤ 64 ⌝ }
     ensures { λ r. ⌜ SizeTable n (now (positive .entry)) (now (negative .entry)) r ⌝ }
 {
     let mut table = [0u64; 64];
+    if 64 < n {
+        return table;
+    }
     let mut above: u64 = 0;
     let mut most: u64 = 0;
     let mut v = n as usize;

@@ -84,7 +84,7 @@ put-rows-spec =
     (λ c. omega arith)
     (λ c. omega arith)
     (λ c. omega arith)
-    (λ c κs. omega arith)
+    (λ c κs. search needs)
     put-edges-start
     put-edges-start
     (λ c. search needs)

@@ -1,6 +1,5 @@
 -- `largest::largest_sound` meets its contract. The search goes from the root, below which all groups are. Assumes nothing.
 use borrow.Author.Needs.{needs}
-use Rattle.signed_graph.proofs.Soundness.{to-sound}
 use Rattle.largest.proofs.Bests.{largest-none, largest-some}
 use Rattle.largest.proofs.largest_sound.Statement.{statement}
 use Rattle.largest.proofs.largest_sound.Tie as tie
@@ -26,7 +25,7 @@ largest-sound-spec =
     tie.close
     (tie.spec
     (λ c κs. search needs)
-    (λ c κs. to-sound _ (c .before .before .before .before .pre) .small)
+    (λ c κs. search needs)
     (λ c κs. search needs)
     returns
     returns-2)

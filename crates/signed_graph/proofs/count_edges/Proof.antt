@@ -50,7 +50,7 @@ count-edges-spec =
     (λ c. omega arith)
     (λ c. omega arith)
     (λ c. omega arith)
-    (λ c κs. omega arith)
+    (λ c κs. search needs)
     (λ c κs. search needs)
     add-count
     (λ c. omega arith)
