@@ -63,14 +63,14 @@ extern "C" {
 #define MASTPICKLE_MORE 1
 
 /* What mastpickle_classify says of a set, with the words that follow; those not named are 0. */
-#define MASTPICKLE_NO_VERDICT 0        /* the call was refused */
-#define MASTPICKLE_EMPTY 1             /* the set has no vertex */
-#define MASTPICKLE_FOREIGN_VERTEX 2    /* its lowest vertex that the graph does not have */
-#define MASTPICKLE_MISSING_EDGE 3      /* its first two vertices with no edge */
-#define MASTPICKLE_UNBALANCED 4        /* its first three vertices with one or three negative edges */
-#define MASTPICKLE_TOO_SMALL 5         /* the sizes of its left and its right side, one of which is under k */
-#define MASTPICKLE_EXTENSIBLE 6        /* the lowest vertex whose addition keeps it balanced */
-#define MASTPICKLE_GROUP 7             /* its left and its right side */
+#define MASTPICKLE_NO_VERDICT 0          /* the call was refused */
+#define MASTPICKLE_EMPTY 1               /* the set has no vertex */
+#define MASTPICKLE_VERTEX_OUT_OF_RANGE 2 /* its lowest vertex that the graph does not have */
+#define MASTPICKLE_MISSING_EDGE 3        /* its first two vertices with no edge */
+#define MASTPICKLE_UNBALANCED 4          /* its first three vertices with one or three negative edges */
+#define MASTPICKLE_TOO_SMALL 5           /* the sizes of its left and its right side, one of which is under k */
+#define MASTPICKLE_EXTENSIBLE 6          /* the lowest vertex whose addition keeps it balanced */
+#define MASTPICKLE_GROUP 7               /* its left and its right side */
 
 /*
  * Writes the graph of n vertices with no edge; the graph of no vertices where n is over 64.

@@ -5,11 +5,10 @@ use lib.ListN.{length}
 use Rattle.signed_graph.specs.Graphs.{edgeless}
 use Rattle.signed_graph.specs.Calls.{graphNumber, refusalNumber}
 use Rattle.reduction.specs.Reductions.{reduced}
-use Rattle.edge_list.specs.Decoding.{decoded}
-use Rattle.canonical.specs.Encoding.{encoded, buffered, encodedNumber, encodedLength}
+use Rattle.edge_list.specs.Decoding.{decoded, decodedNumber, decodedPlace}
+use Rattle.canonical.specs.Encoding.{buffered, encodingNumber, encodingLength}
 use Rattle.c_words.specs.Graphs.{graphAt, wordsOf}
 use Rattle.c_words.specs.Refusals.{graphRefusal, ownRefusal, unlessRefused, numberAfter, wordsAfter}
-use Rattle.c_graphs.specs.Answers.{outcomeNumber, outcomePlace}
 
 -- ---- new
 
@@ -31,7 +30,7 @@ checkCallReturns graph k = numberAfter (graphRefusal (length graph)) (refusalNum
 
 abbrev pub decodeReturns : List ℕ → List ℕ → List ℕ → ℕ
 decodeReturns bytes graph answer =
-    numberAfter (ownRefusal (length graph) (length answer) 1) (outcomeNumber (decoded bytes .outcome))
+    numberAfter (ownRefusal (length graph) (length answer) 1) (decodedNumber bytes)
 
 abbrev pub decodeGraph : List ℕ → List ℕ → List ℕ → List ℕ
 decodeGraph bytes graph answer =
@@ -39,20 +38,20 @@ decodeGraph bytes graph answer =
 
 abbrev pub decodeAnswer : List ℕ → List ℕ → List ℕ → List ℕ
 decodeAnswer bytes graph answer =
-    wordsAfter (ownRefusal (length graph) (length answer) 1) (outcomePlace (decoded bytes .outcome) ∷ []) answer
+    wordsAfter (ownRefusal (length graph) (length answer) 1) (decodedPlace bytes ∷ []) answer
 
 -- ---- encode
 
 abbrev pub encodeReturns : List ℕ → List ℕ → List ℕ → ℕ
 encodeReturns graph out answer =
-    numberAfter (ownRefusal (length graph) (length answer) 1) (encodedNumber (encoded (graphAt graph) (length out)))
+    numberAfter (ownRefusal (length graph) (length answer) 1) (encodingNumber (graphAt graph) (length out))
 
 abbrev pub encodeBuffer : List ℕ → List ℕ → List ℕ → List ℕ
 encodeBuffer graph out answer = unlessRefused (ownRefusal (length graph) (length answer) 1) out (buffered (graphAt graph) out)
 
 abbrev pub encodeAnswer : List ℕ → List ℕ → List ℕ → List ℕ
 encodeAnswer graph out answer =
-    wordsAfter (ownRefusal (length graph) (length answer) 1) (encodedLength (encoded (graphAt graph) (length out)) ∷ []) answer
+    wordsAfter (ownRefusal (length graph) (length answer) 1) (encodingLength (graphAt graph) (length out) ∷ []) answer
 
 -- ---- reduce
 

@@ -1,9 +1,7 @@
 // The calls about graphs on arrays: a new graph, the checks, edge lists, the reduction.
-use edge_list::Outcome;
 use signed_graph::SignedGraph;
 ghost use mathlib.Core.Path.{_≡_};
 ghost use Prim.Native.Nat.{min};
-ghost use Rattle.c_graphs.specs.Answers.{outcomeNumber, outcomePlace};
 ghost use Rattle.c_graphs.specs.Calls.{newReturns, newGraph, checkSoundReturns, checkCallReturns, decodeReturns, decodeGraph, decodeAnswer, encodeReturns, encodeBuffer, encodeAnswer, reduceReturns, reduceGraph};
 
 // The shorter of two lengths.
@@ -11,25 +9,6 @@ fn shorter(a: usize, b: usize) -> usize
     ensures { λ r. ⌜ r ≡ min a b ⌝ }
 {
     if a < b { a } else { b }
-}
-
-fn outcome_number(outcome: Outcome) -> u64
-    ensures { λ r. ⌜ r ≡ outcomeNumber outcome ⌝ }
-{
-    match outcome {
-        Outcome::Accepted => 0,
-        Outcome::Refused(fault) => fault.number(),
-    }
-}
-
-// The place of a fault; 0 where there is none.
-fn outcome_place(outcome: Outcome) -> u64
-    ensures { λ r. ⌜ r ≡ outcomePlace outcome ⌝ }
-{
-    match outcome {
-        Outcome::Accepted => 0,
-        Outcome::Refused(fault) => fault.place() as u64,
-    }
 }
 
 // Writes the graph of n vertices with no edge; of no vertices for n over 64.
@@ -80,9 +59,9 @@ pub fn decode(bytes: &[u8], graph: &mut [u64], answer: &mut [u64]) -> u64
     let decoded = edge_list::decode(bytes);
     c_words::put_graph(decoded.graph, graph);
     let outcome = decoded.outcome;
-    let words = [outcome_place(outcome)];
+    let words = [outcome.place() as u64];
     c_words::put_words(&words, answer);
-    outcome_number(outcome)
+    outcome.number()
 }
 
 // Writes the canonical edge list of the graph, and its length.

@@ -3,11 +3,11 @@ use Prim.Native.Nat.{ℕ}
 use mathlib.Core.List.{List}
 use lib.ListN.{length}
 use Rattle.signed_graph.specs.Calls.{refusalNumber}
-use Rattle.group_pages.specs.Calls.{pageOf, pageBytes}
+use Rattle.group_pages.specs.Calls.{pageValuesOf, pageBytes}
 use Rattle.c_words.specs.Graphs.{graphAt}
 use Rattle.c_words.specs.Refusals.{answerRefusal, unlessRefused, numberAfter, wordsAfter}
 use Rattle.c_pages.specs.Refusals.{pageRefusal}
-use Rattle.c_pages.specs.Answers.{markAt, pageWords, recordWords}
+use Rattle.c_pages.specs.Answers.{markAt, recordWords}
 
 -- ---- pages
 
@@ -22,7 +22,7 @@ listPageBuffer graph k kind set out answer =
 abbrev pub listPageAnswer : List ℕ → ℕ → ℕ → ℕ → List ℕ → List ℕ → List ℕ
 listPageAnswer graph k kind set out answer =
     wordsAfter (pageRefusal (length graph) (length answer) kind)
-    (pageWords (pageOf (graphAt graph) k (markAt kind set) (length out))) answer
+    (pageValuesOf (graphAt graph) k (markAt kind set) (length out)) answer
 
 -- ---- a record
 

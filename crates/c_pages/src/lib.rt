@@ -7,9 +7,10 @@ use pages::End;
 use pages::Page;
 ghost use mathlib.Core.Path.{_≡_};
 ghost use lib.ListN.{length};
+ghost use Rattle.pages.specs.Answers.{endNumber, markKind, markSet, pageValues};
 ghost use Rattle.group_pages.specs.Records.{recordAt};
 ghost use Rattle.c_pages.specs.Refusals.{pageRefusal};
-ghost use Rattle.c_pages.specs.Answers.{endWord, markKind, markSet, markAt, pageWords, recordWords, partAt};
+ghost use Rattle.c_pages.specs.Answers.{markAt, recordWords, partAt};
 ghost use Rattle.c_pages.specs.Calls.{listPageReturns, listPageBuffer, listPageAnswer, recordAtReturns, recordAtAnswer};
 
 // The refusal of a bookmark whose kind is neither 0 nor 1.
@@ -34,8 +35,8 @@ fn page_refusal(graph: usize, answer: usize, kind: u64) -> u64
     0
 }
 
-fn end_word(end: End) -> u64
-    ensures { λ r. ⌜ r ≡ endWord end ⌝ }
+fn end_number(end: End) -> u64
+    ensures { λ r. ⌜ r ≡ endNumber end ⌝ }
 {
     match end {
         End::Finished => 0,
@@ -73,12 +74,12 @@ fn mark_at(kind: u64, set: u64) -> Bookmark
     Bookmark::After(set)
 }
 
-fn page_words(page: Page) -> [u64; 4]
-    ensures { λ r. ⌜ r ≡ pageWords page ⌝ }
+fn page_values(page: Page) -> [u64; 4]
+    ensures { λ r. ⌜ r ≡ pageValues page ⌝ }
 {
     let end = page.end;
     let next = page.next;
-    let last = end_word(end);
+    let last = end_number(end);
     let kind = mark_kind(next);
     let set = mark_set(next);
     [page.count as u64, last, kind, set]
@@ -114,7 +115,7 @@ pub fn list_page(
         return own;
     }
     let page = listing::list_page(c_words::graph_at(graph), k, mark_at(kind, set), out);
-    let words = page_words(page);
+    let words = page_values(page);
     c_words::put_words(&words, answer);
     let outcome = page.outcome;
     c_words::check_number(outcome)

@@ -28,7 +28,7 @@ buffered g out =
     orElse provided (ltb (length out) (length (canonical g))) out
     orElse overwritten (canonical g) out
 
--- document 01's number of each answer, and the length that it gives
+-- document 01's number of each answer, and the length that it gives: 0 where the call is refused
 abbrev pub encodedNumber : Encoded → ℕ
 encodedNumber (Written k) = 0
 encodedNumber (Refused r) = refusalOf r
@@ -36,3 +36,17 @@ encodedNumber (Refused r) = refusalOf r
 abbrev pub encodedLength : Encoded → ℕ
 encodedLength (Written k) = k
 encodedLength (Refused r) = 0
+
+-- the number that the call returns: 10 where the graph is not sound, then 13 where the buffer is shorter than the form
+unfoldable pub encodingNumber : SignedGraph → ℕ → ℕ
+encodingNumber g room =
+    provided (not (sound g)) 10
+    orElse provided (ltb room (length (canonical g))) 13
+    orElse 0
+
+-- and the length
+unfoldable pub encodingLength : SignedGraph → ℕ → ℕ
+encodingLength g room =
+    provided (not (sound g)) 0
+    orElse provided (ltb room (length (canonical g))) 0
+    orElse length (canonical g)

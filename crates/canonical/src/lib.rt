@@ -12,7 +12,7 @@ ghost use Rattle.signed_graph.specs.Soundness.{sound};
 ghost use Rattle.edge_list.specs.Edges.{commandByte, edgeBytes};
 ghost use Rattle.canonical.specs.Canonical.{orderedEdges, canonical};
 ghost use Rattle.canonical.specs.Encoding as encoding;
-ghost use Rattle.canonical.specs.Encoding.{encoded, buffered};
+ghost use Rattle.canonical.specs.Encoding.{encoded, buffered, encodingNumber, encodingLength};
 ghost use Rattle.canonical.specs.EdgeRows.{signBy, edgesTo};
 
 // The length of the canonical form that was written, or why none was.
@@ -116,6 +116,8 @@ fn put_canonical(g: SignedGraph, out: &mut [u8])
 // Writes the canonical form of a graph, if the graph is sound and the buffer has room for it.
 pub fn encode(g: SignedGraph, out: &mut [u8]) -> Encoded
     ensures answer { λ r. ⌜ r ≡ encoded g (length (now (out .entry))) ⌝ }
+    ensures number { λ r. ⌜ encoding.encodedNumber r ≡ encodingNumber g (length (now (out .entry))) ⌝ }
+    ensures size { λ r. ⌜ encoding.encodedLength r ≡ encodingLength g (length (now (out .entry))) ⌝ }
     ensures buffer { λ r. ⌜ now (out .exit) ≡ buffered g (now (out .entry)) ⌝ }
 {
     if !signed_graph::is_sound(g) {

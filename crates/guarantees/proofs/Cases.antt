@@ -28,7 +28,8 @@ use Rattle.clique.specs.Verdicts.{classified}
 use Rattle.clique.proofs.Cases.{set, samples-sound, cases-groups, cases-verdicts}
 use Rattle.reduction.specs.Reductions.{reduced}
 use Rattle.reduction.proofs.Cases as reduction
-use Rattle.edge_list.proofs.Cases.{GraphA, graph-A, listA}
+use Rattle.edge_list.specs.Decoding.{accepted, decoded}
+use Rattle.edge_list.proofs.Cases.{listA, turnedA, listT3, listT4, decodes}
 use Rattle.canonical.specs.Canonical.{canonical}
 use Rattle.canonical.proofs.Cases.{writes-A}
 use Rattle.pages.specs.declared.Bookmark.the-variants.{Start, After}
@@ -49,8 +50,9 @@ abbrev group : List ℕ → List ℕ → Item
 group l r = record { vertices = set (l ++ r); left = set l; right = set r }
 
 pub record Cases : Type 0 where
-  -- the edge list of A decodes to A, and is its canonical form
-  pub A : GraphA
+  -- the edge list of A decodes to A, turned round too, and is its canonical form
+  pub A : decoded listA ≡ accepted sampleA
+  pub A-turned : decoded turnedA ≡ accepted sampleA
   pub A-written : canonical sampleA ≡ listA
   -- no vertices: no group, the largest call returns 12, and the first page is the last
   pub T1 : (k : ℕ) → listing (edgeless 0) k ≡ []
@@ -62,8 +64,10 @@ pub record Cases : Type 0 where
   pub T2-at-0 : listing (edgeless 1) 0 ≡ group (0 ∷ []) [] ∷ []
   pub T2-at-1 : listing (edgeless 1) 1 ≡ []
   -- three vertices, all edges negative: each two of them
+  pub T3-list : decoded listT3 ≡ accepted triangle
   pub T3 : listing triangle 1 ≡ group (0 ∷ []) (1 ∷ []) ∷ group (0 ∷ []) (2 ∷ []) ∷ group (1 ∷ []) (2 ∷ []) ∷ []
   -- the positive edges 0,1 and 1,2: each of them, since 0 and 2 have no edge
+  pub T4-list : decoded listT4 ≡ accepted chain
   pub T4 : listing chain 0 ≡ group (0 ∷ 1 ∷ []) [] ∷ group (1 ∷ 2 ∷ []) [] ∷ []
   -- A at k = 1: two groups, the first of them the largest
   pub T5 : listing sampleA 1 ≡ group (0 ∷ 1 ∷ []) (2 ∷ 3 ∷ []) ∷ group (0 ∷ 4 ∷ []) (2 ∷ []) ∷ []
@@ -156,7 +160,8 @@ pub cases : Cases
 unfolding listing left right R.seek S.mem S.collect S.lowest
 cases =
     record {
-      A = graph-A;
+      A = decodes .A;
+      A-turned = decodes .A-turned;
       A-written = writes-A;
       T1 = at-T1;
       T1-largest = at-T1-largest;
@@ -164,7 +169,9 @@ cases =
       T1-page = at-T1-page;
       T2-at-0 = ap (map (itemOf (edgeless 1))) (cases-groups .T2-at-0);
       T2-at-1 = ap (map (itemOf (edgeless 1))) (cases-groups .T2-at-1);
+      T3-list = decodes .T3;
       T3 = ap (map (itemOf triangle)) (cases-groups .T3);
+      T4-list = decodes .T4;
       T4 = ap (map (itemOf chain)) (cases-groups .T4);
       T5 = at-T5;
       T5-largest = at-T5-largest;

@@ -11,7 +11,8 @@ ghost use mathlib.Core.Bool.{true};
 ghost use lib.ListN.{length};
 ghost use Rattle.signed_graph.specs.Soundness.{sound};
 ghost use Rattle.signed_graph.specs.Calls.{checkNumber, refusalNumber};
-ghost use Rattle.group_pages.specs.Calls.{dueGroups, pageOf, pageBytes};
+ghost use Rattle.pages.specs.Answers.{pageValues};
+ghost use Rattle.group_pages.specs.Calls.{dueGroups, pageOf, pageBytes, pageValuesOf};
 ghost use Rattle.group_pages.specs.Filling.{HoldsGroups, AddsGroups};
 ghost use Rattle.nodes.specs.Nodes.{nodeOf};
 ghost use Rattle.nodes.specs.Below.{leafItems};
@@ -164,9 +165,10 @@ fn list_sound(g: SignedGraph, k: u64, from: Bookmark, out: &mut [u8]) -> Page
 
 // The records of the first groups for k that are due at a bookmark, as many as fit, at the front of `out`.
 pub fn list_page(g: SignedGraph, k: u64, from: Bookmark, out: &mut [u8]) -> Page
-    ensures { λ r. ⌜ r ≡ pageOf g k from (length (now (out .entry))) ⌝ }
-    ensures { λ r. ⌜ now (out .exit) ≡ pageBytes g k from (now (out .entry)) ⌝ }
-    ensures { λ r. ⌜ checkNumber (r .outcome) ≡ refusalNumber g k ⌝ }
+    ensures answer { λ r. ⌜ r ≡ pageOf g k from (length (now (out .entry))) ⌝ }
+    ensures bytes { λ r. ⌜ now (out .exit) ≡ pageBytes g k from (now (out .entry)) ⌝ }
+    ensures number { λ r. ⌜ checkNumber (r .outcome) ≡ refusalNumber g k ⌝ }
+    ensures values { λ r. ⌜ pageValues r ≡ pageValuesOf g k from (length (now (out .entry))) ⌝ }
 {
     match signed_graph::check_call(g, k) {
         Check::Refused(refusal) => Page {

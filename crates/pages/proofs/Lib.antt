@@ -1,3 +1,4 @@
+pub mod Answers
 pub mod Bookmarks
 pub mod Filling
 pub mod PageLists

@@ -43,8 +43,8 @@ pub fn classify(graph: &SignedGraph, k: u64, set: u64) -> Result<Verdict, u64> {
         let sizes = (left.count_ones(), right.count_ones());
         return Ok(Verdict::TooSmall(sizes.0.into(), sizes.1.into()));
     }
-    let widening = (0..graph.n).find(|&v| !holds(set, v) && split(graph, set | 1 << v).is_some());
-    Ok(match widening {
+    let extension = (0..graph.n).find(|&v| !holds(set, v) && split(graph, set | 1 << v).is_some());
+    Ok(match extension {
         Some(v) => Verdict::Extensible(v),
         None => Verdict::Group(left, right),
     })

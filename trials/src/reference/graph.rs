@@ -78,8 +78,8 @@ impl SignedGraph {
                 let both = self.is_positive(u, v) && self.is_negative(u, v);
                 let mutual = self.is_positive(u, v) == self.is_positive(v, u)
                     && self.is_negative(u, v) == self.is_negative(v, u);
-                let foreign = u >= self.n || v >= self.n;
-                if !mutual || both || (edge && (u == v || foreign)) {
+                let outside = u >= self.n || v >= self.n;
+                if !mutual || both || (edge && (u == v || outside)) {
                     return false;
                 }
             }

@@ -5,7 +5,7 @@ use crate::reference::*;
 
 /// Checks the reference on all of them.
 pub fn check() -> Result<(), String> {
-    worked_books()?;
+    worked_edge_lists()?;
     worked_graphs()
 }
 
@@ -19,9 +19,9 @@ const A: [u8; 27] = [
 const THREE: [u8; 12] = [0x10, 3, 0x22, 0, 1, 0x22, 0, 2, 0x22, 1, 2, 0xff];
 
 /// An edge list and what decoding it must give: a refusal and its place, or nothing.
-type Book = (&'static [u8], Option<(u64, usize)>);
+type Tried = (&'static [u8], Option<(u64, usize)>);
 
-const BOOKS: [Book; 13] = [
+const EDGE_LISTS: [Tried; 13] = [
     (&[0x10, 0, 0xff], None),
     (&[], Some((1, 0))),
     (&[0x10], Some((4, 0))),
@@ -37,8 +37,8 @@ const BOOKS: [Book; 13] = [
     (&[0x10, 2, 0x21, 0, 0xff], Some((5, 2))),
 ];
 
-fn worked_books() -> Result<(), String> {
-    for (bytes, must) in BOOKS {
+fn worked_edge_lists() -> Result<(), String> {
+    for (bytes, must) in EDGE_LISTS {
         if decode(bytes).err() != must {
             return Err(format!("{bytes:x?} must be {must:?}"));
         }
@@ -82,13 +82,13 @@ fn worked_graphs() -> Result<(), String> {
     }
     let a = decode(&A).expect("A is valid");
     let three = decode(&THREE).expect("three vertices are valid");
-    let judged = [
+    let classified = [
         (&a, 1, 0b10011, Verdict::MissingEdge(1, 4)),
         (&a, 1, 0b00101, Verdict::Extensible(1)),
         (&three, 1, 0b111, Verdict::Unbalanced(0, 1, 2)),
         (&a, 2, 0b10101, Verdict::TooSmall(2, 1)),
     ];
-    for (graph, k, set, must) in judged {
+    for (graph, k, set, must) in classified {
         if classify(graph, k, set) != Ok(must.clone()) {
             return Err(format!("{set:b} for {k} must be {must:?}"));
         }

@@ -29,7 +29,7 @@ const NUMBERS: [(&str, u64); 31] = [
     ("MORE", 1),
     ("NO_VERDICT", 0),
     ("EMPTY", 1),
-    ("FOREIGN_VERTEX", 2),
+    ("VERTEX_OUT_OF_RANGE", 2),
     ("MISSING_EDGE", 3),
     ("UNBALANCED", 4),
     ("TOO_SMALL", 5),

@@ -31,10 +31,10 @@ returns-2 c =
     let a = i .before .before .before .before .before .args in
     let is = d .decode .ensures in
     rw (passes (i .before .own-refusal .ensures) (i .if1 .left)) (
-      c .outcome-number .ensures ∙ rw is,
+      c .number .ensures ∙ is .1 .0,
       (
-        written-as (a .graph .now) (ap (λ (x : Decoded). x .graph) is) (g .put-graph .ensures),
-        w .put-words .ensures ∙ rw (p .outcome-place .ensures, is),
+        written-as (a .graph .now) (ap (λ (x : Decoded). x .graph) (is .0)) (g .put-graph .ensures),
+        w .put-words .ensures ∙ rw (p .place .ensures, is .1 .1 .0),
       ),
     )
 

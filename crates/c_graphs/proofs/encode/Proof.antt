@@ -27,7 +27,7 @@ returns-2 c =
     let i = g .before in
     let is = e .encode .ensures in
     rw (passes (i .before .own-refusal .ensures) (i .if1 .left), ← g .graph-at .ensures)
-    (c .number .ensures ∙ rw (is .0), (is .1, w .put-words .ensures ∙ rw (n .length .ensures, is .0)))
+    (c .number .ensures ∙ is .1 .0, (is .1 .1 .1, w .put-words .ensures ∙ rw (n .length .ensures, is .1 .1 .0)))
 
 pub encode-spec : {M : Type 1} → statement M
 encode-spec =

@@ -19,7 +19,7 @@ graph-at-requires c κs = page-long (c .if1 .left) _ _ _ (c .before .page-refusa
 put-words-requires : tie.Need-put-words-requires
 put-words-requires c κs =
     let i = c .before .before .before .before .before .before .before .before .before in
-    let p = c .before .before .page-words in
+    let p = c .before .before .page-values in
     omega (arith, page-long (i .if1 .left) _ _ _ (i .before .page-refusal .ensures) .1, ap length (p .ensures))
 
 returns-2 : tie.Need-returns-2
@@ -32,7 +32,7 @@ returns-2 c =
     let i = g .before in
     let page = l .list-page .ensures in
     rw (passes (i .before .page-refusal .ensures) (i .if1 .left), ← g .graph-at .ensures, ← m .mark-at .ensures)
-    (c .check-number .ensures ∙ page .1 .1, (page .1 .0, w .put-words .ensures ∙ rw (p .page-words .ensures, page .0)))
+    (c .check-number .ensures ∙ page .1 .1 .0, (page .1 .0, w .put-words .ensures ∙ rw (p .page-values .ensures ∙ page .1 .1 .1)))
 
 pub list-page-spec : {M : Type 1} → statement M
 list-page-spec =

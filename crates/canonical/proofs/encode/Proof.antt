@@ -11,31 +11,31 @@ use Rattle.signed_graph.proofs.Soundness.{to-sound}
 use Rattle.signed_graph.proofs.EdgeCounts.{edges-most}
 use Rattle.canonical.specs.declared.Encoded.the-variants.{Written}
 use Rattle.canonical.specs.Canonical.{canonical}
-use Rattle.canonical.specs.Encoding.{encoded, buffered}
+use Rattle.canonical.specs.Encoding.{encoded, buffered, encodingNumber, encodingLength}
 use Rattle.canonical.proofs.Rows.{length-canonical}
 use Rattle.canonical.proofs.encode.Statement.{statement}
 use Rattle.canonical.proofs.encode.Tie as tie
 
 returns : tie.Need-returns
-unfolding encoded buffered
+unfolding encoded buffered encodingNumber encodingLength
 returns c =
     let i = c .before .is-sound in
     let s : sound (c .before .before .before .args .g) ≡ false = sym (i .ensures) ∙ not-true (i .result) (c .if1 .taken) in
-    (simp s, simp s)
+    (simp s, (simp s, (simp s, simp s)))
 
 -- the sum fits, and so does the product in it
 need-fits : tie.Need-add-need
 need-fits c = omega (arith, c .count-edges .ensures, edges-most (c .before .before .before .before .args .g))
 
 returns-2 : tie.Need-returns-2
-unfolding encoded buffered
+unfolding encoded buffered encodingNumber encodingLength
 returns-2 c =
     let a = c .before .before .before .before .before .args in
     let i = c .before .before .before .is-sound in
     let s : sound (a .g) ≡ true = sym (i .ensures) ∙ not-false (i .result) (c .before .before .if1 .left) in
     let h : length (a .out .now) < length (canonical (a .g)) =
     omega (arith, c .if2 .taken, c .before .count-edges .ensures, length-canonical (a .g) (to-sound (a .g) s)) in
-    (simp (s, lt-ltb _ _ h), simp (s, lt-ltb _ _ h))
+    (simp (s, lt-ltb _ _ h), (simp (s, lt-ltb _ _ h), (simp (s, lt-ltb _ _ h), simp (s, lt-ltb _ _ h))))
 
 put-canonical-requires : tie.Need-put-canonical-requires
 put-canonical-requires c κs =
@@ -47,15 +47,17 @@ put-canonical-requires c κs =
     )
 
 returns-3 : tie.Need-returns-3
-unfolding encoded buffered
+unfolding encoded buffered encodingNumber encodingLength
 returns-3 c =
     let a = c .before .before .before .before .before .before .before .before .before .args in
     let i = c .before .before .before .before .before .before .before .is-sound in
     let n = c .before .before .before .before .before .count-edges in
     let s : sound (a .g) ≡ true = sym (i .ensures) ∙ not-false (i .result) (c .before .before .before .before .before .before .if1 .left) in
     let need : 3 + 3 * n .result ≡ length (canonical (a .g)) = omega (arith, n .ensures, length-canonical (a .g) (to-sound (a .g) s)) in
-    let h : length (canonical (a .g)) ≤ length (a .out .now) = omega (arith, c .before .before .before .before .if2 .left) in
-    (ap Written need ∙ simp (s, le-ltb _ _ h), c .before .before .put-canonical .ensures ∙ simp (s, le-ltb _ _ h))
+    let h : length (canonical (a .g)) ≤ length (a .out .now) = omega (arith, c .before .before .before .before .if2 .left) in (
+      ap Written need ∙ simp (s, le-ltb _ _ h),
+      (simp (s, le-ltb _ _ h), (need ∙ simp (s, le-ltb _ _ h), c .before .before .put-canonical .ensures ∙ simp (s, le-ltb _ _ h))),
+    )
 
 pub encode-spec : {M : Type 1} → statement M
 encode-spec =

@@ -13,9 +13,11 @@ use Rattle.pages.specs.declared.Bookmark.{Bookmark}
 use Rattle.pages.specs.declared.Page.{Page}
 use Rattle.pages.specs.Pages.{answer}
 use Rattle.pages.specs.Pages.{pageBy, bytesBy}
+use Rattle.pages.specs.Answers.{pageValues}
+use Rattle.pages.proofs.Answers.{page-values}
 use Rattle.clique.specs.Listing.{itemSet}
 use Rattle.group_pages.specs.Records.{recordWidth, recordOf}
-use Rattle.group_pages.specs.Calls.{dueGroups, pageOf, pageBytes}
+use Rattle.group_pages.specs.Calls.{dueGroups, pageOf, pageBytes, pageValuesOf}
 use Rattle.listing.proofs.list_page.Statement.{statement}
 use Rattle.listing.proofs.list_page.Tie as tie
 
@@ -33,14 +35,23 @@ module _ (g : SignedGraph) (k : Threshold) (from : Bookmark) (out : List ℕ) {x
   wrote : bytesBy recordOf recordWidth x (dueGroups g k from) out ≡ pageBytes g k from out
   wrote = ap (λ (y : Check). bytesBy recordOf recordWidth y (dueGroups g k from) out) e
 
+-- its numbers
+valued : (g : SignedGraph) (k : Threshold) (from : Bookmark) (room : ℕ) {p : Page} → p ≡ pageOf g k from room
+    → pageValues p ≡ pageValuesOf g k from room
+valued g k from room e = ap pageValues e ∙ page-values itemSet recordWidth (checkOf g k) from room (dueGroups g k from)
+
 returns : tie.Need-returns
 returns c =
     let k = c .before .before .before in
     let a = k .before .before .args in
     let told = sym (c .before .refusal .given .1) in
-    let e = told ∙ k .check-call .ensures .0 in (
-      answered (a .g) (a .k) (a .from) (a .out .now) e,
-      (wrote (a .g) (a .k) (a .from) (a .out .now) e, ap checkNumber told ∙ k .check-call .ensures .1),
+    let e = told ∙ k .check-call .ensures .0 in
+    let is = answered (a .g) (a .k) (a .from) (a .out .now) e in (
+      is,
+      (
+        wrote (a .g) (a .k) (a .from) (a .out .now) e,
+        (ap checkNumber told ∙ k .check-call .ensures .1, valued (a .g) (a .k) (a .from) (length (a .out .now)) is),
+      ),
     )
 
 returns-2 : tie.Need-returns-2
@@ -51,11 +62,15 @@ returns-2 c =
     let k = t .before .before in
     let a = k .before .before .args in
     let told = sym (t .enum-told .given .1) in
-    let e = told ∙ k .check-call .ensures .0 in (
-      h .answered ∙ answered (a .g) (a .k) (a .from) (a .out .now) e,
+    let e = told ∙ k .check-call .ensures .0 in
+    let is = h .answered ∙ answered (a .g) (a .k) (a .from) (a .out .now) e in (
+      is,
       (
         h .wrote ∙ wrote (a .g) (a .k) (a .from) (a .out .now) e,
-        ap checkNumber (ap (λ (p : Page). p .outcome) (h .answered) ∙ told) ∙ k .check-call .ensures .1,
+        (
+          ap checkNumber (ap (λ (p : Page). p .outcome) (h .answered) ∙ told) ∙ k .check-call .ensures .1,
+          valued (a .g) (a .k) (a .from) (length (a .out .now)) is,
+        ),
       ),
     )
 
