@@ -1,15 +1,16 @@
 -- What the refusals of the interface mean for a call. Assumes nothing.
 use Prim.Native.Nat.{ℕ, _≤_}
 use native.Mathlib.Omega.{arith}
-use mathlib.Core.Path.{_≡_, sym, _∙_}
+use mathlib.Core.Path.{_≡_, refl, sym, _∙_}
 use mathlib.Core.Logic.{_≢_}
-use mathlib.Core.Bool.{false}
+use mathlib.Core.Bool.{Bool, true, false}
 use lib.Dec.{ltb, eqb}
-use borrow.Author.Tests.{ltb-false, ne-eqb}
+use borrow.Author.Tests.{eqb-true, eq-eqb, le-ltb, ltb-false, ne-eqb}
 use Rattle.vertex_set.specs.Alternatives.{_orElse_}
 use Rattle.vertex_set.proofs.Alternatives.{not-said}
+use Rattle.vertex_set.proofs.Booleans.{clash}
 use Rattle.c_words.specs.Graphs.{graphWords}
-use Rattle.c_words.specs.Refusals.{shortGraph, shortAnswer, graphRefusal, answerRefusal, ownRefusal}
+use Rattle.c_words.specs.Refusals.{shortGraph, shortAnswer, graphRefusal, answerRefusal, ownRefusal, numberAfter}
 
 -- r is the interface's own refusal
 module _ {own r : ℕ} (e : r ≡ own) where
@@ -49,3 +50,16 @@ module _ {r : ℕ} (z : r ≡ 0) where
   pub both-long : (graph answer needed : ℕ) → r ≡ ownRefusal graph answer needed → (graphWords ≤ graph) × (needed ≤ answer)
   unfolding ownRefusal
   both-long graph answer needed e = arrays-long graph answer needed 0 e
+
+-- a call that returns 0 is refused neither by the interface nor by itself
+pub returns-0 : (own number : ℕ) → numberAfter own number ≡ 0 → (own ≡ 0) × (number ≡ 0)
+returns-0 own number = go (eqb own 0) refl
+  where
+    go : (b : Bool) → eqb own 0 ≡ b → _≡_ {A = ℕ} (elim b [ true ↦ number | false ↦ own ]) 0 → (own ≡ 0) × (number ≡ 0)
+    go true t e = (eqb-true own 0 t, e)
+    go false t e = clash (eqb own 0) (eq-eqb own 0 e) t
+
+-- arrays that are long enough are not refused
+pub none-refused : (graph answer needed : ℕ) → graphWords ≤ graph → needed ≤ answer → ownRefusal graph answer needed ≡ 0
+unfolding ownRefusal
+none-refused graph answer needed g a = simp (le-ltb graph graphWords g, le-ltb answer needed a)

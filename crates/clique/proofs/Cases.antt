@@ -1,5 +1,5 @@
--- Document 01's cases T1 to T5 and T7 (their groups) and T8 to T11 (the verdicts), which compute. Assumes nothing.
-use mathlib.Core.Path.{_≡_, refl}
+-- Document 01's cases T1 to T5 and T7 (their groups) and T8 to T11 (the verdicts, with numbers and values), which compute. Assumes nothing.
+use mathlib.Core.Path.{_≡_, refl, ap}
 use mathlib.Core.Bool.{true}
 use mathlib.Core.List.{List, [], _∷_}
 use Prim.Native.Nat.{ℕ, _+_, _^_}
@@ -9,11 +9,13 @@ use Rattle.vertex_set.specs.Sets as S
 use Rattle.signed_graph.specs.Graphs.{edgeless, vertices}
 use Rattle.signed_graph.specs.Samples.{triangle, chain, sampleA}
 use Rattle.signed_graph.specs.Soundness.{sound, hasAllRows, loopless, symmetric, confined, unambiguous}
-use Rattle.clique.specs.declared.Verdict.the-variants.{MissingEdge, Unbalanced, TooSmall, Extensible}
+use Rattle.clique.specs.declared.Verdict.{Verdict}
+use Rattle.clique.specs.declared.Verdict.the-variants.{Empty, OutOfRange, MissingEdge, Unbalanced, TooSmall, Extensible, Group}
+use Rattle.clique.specs.declared.Classified.the-variants.{As}
 use Rattle.clique.specs.Balance.{balanced, allAgree, left, right}
 use Rattle.clique.specs.Groups.{floor, extension, isGroup, groups}
 use Rattle.vertex_set.specs.Order.{choices, subsets}
-use Rattle.clique.specs.Verdicts.{verdict, firstOutside, missingFirst, missingSecond, oddFirst, oddSecond, oddThird}
+use Rattle.clique.specs.Verdicts.{verdict, firstOutside, missingFirst, missingSecond, oddFirst, oddSecond, oddThird, classifiedValues}
 
 -- the set of the vertices of a list
 abbrev pub set : List ℕ → ℕ
@@ -62,7 +64,49 @@ pub record Verdicts : Type 0 where
   pub T11 : verdict sampleA 2 (set (0 ∷ 2 ∷ 4 ∷ [])) ≡ TooSmall 2 1
   -- vertex 1 could be added, but the sizes come first
   pub small-first : verdict sampleA 1 (set (0 ∷ [])) ≡ TooSmall 1 0
+  -- vertex 0 is negative to both others, so its side would be too small, but the triple comes first
+  pub unbalanced-first : verdict triangle 2 (set (0 ∷ 1 ∷ 2 ∷ [])) ≡ Unbalanced 0 1 2
+  pub empty : verdict sampleA 1 (set []) ≡ Empty
+  pub outside : verdict sampleA 1 (set (0 ∷ 60 ∷ 63 ∷ [])) ≡ OutOfRange 60
+  pub T5-group : verdict sampleA 1 (set (0 ∷ 1 ∷ 2 ∷ 3 ∷ [])) ≡ Group (set (0 ∷ 1 ∷ [])) (set (2 ∷ 3 ∷ []))
 
 pub cases-verdicts : Verdicts
 unfolding verdict firstOutside missingFirst missingSecond oddFirst oddSecond oddThird extension floor balanced allAgree left right vertices R.all R.count R.seek S.mem S.collect S.size S.lowest S.below
-cases-verdicts = record { T8 = refl; T9 = refl; T10 = refl; T11 = refl; small-first = refl }
+cases-verdicts =
+    record {
+      T8 = refl;
+      T9 = refl;
+      T10 = refl;
+      T11 = refl;
+      small-first = refl;
+      unbalanced-first = refl;
+      empty = refl;
+      outside = refl;
+      T5-group = refl;
+    }
+
+-- their numbers and values
+abbrev valuesOf : Verdict → List ℕ
+valuesOf v = classifiedValues (As v)
+
+pub record Values : Type 0 where
+  pub empty : valuesOf (verdict sampleA 1 (set [])) ≡ 1 ∷ []
+  pub outside : valuesOf (verdict sampleA 1 (set (0 ∷ 60 ∷ 63 ∷ []))) ≡ 2 ∷ 60 ∷ []
+  pub T8 : valuesOf (verdict sampleA 1 (set (0 ∷ 1 ∷ 4 ∷ []))) ≡ 3 ∷ 1 ∷ 4 ∷ []
+  pub T10 : valuesOf (verdict triangle 1 (set (0 ∷ 1 ∷ 2 ∷ []))) ≡ 4 ∷ 0 ∷ 1 ∷ 2 ∷ []
+  pub T11 : valuesOf (verdict sampleA 2 (set (0 ∷ 2 ∷ 4 ∷ []))) ≡ 5 ∷ 2 ∷ 1 ∷ []
+  pub T9 : valuesOf (verdict sampleA 1 (set (0 ∷ 2 ∷ []))) ≡ 6 ∷ 1 ∷ []
+  pub T5-group : valuesOf (verdict sampleA 1 (set (0 ∷ 1 ∷ 2 ∷ 3 ∷ []))) ≡ 7 ∷ set (0 ∷ 1 ∷ []) ∷ set (2 ∷ 3 ∷ []) ∷ []
+
+pub cases-values : Values
+cases-values =
+    let c : Verdicts = cases-verdicts in
+    record {
+      empty = ap valuesOf (c .empty);
+      outside = ap valuesOf (c .outside);
+      T8 = ap valuesOf (c .T8);
+      T10 = ap valuesOf (c .T10);
+      T11 = ap valuesOf (c .T11);
+      T9 = ap valuesOf (c .T9);
+      T5-group = ap valuesOf (c .T5-group);
+    }

@@ -67,11 +67,11 @@ module _ (g : SignedGraph) (so : Sound g) where
 
   -- ---- the search for an extension
 
-  pub extension-found : (s : ℕ) → Found (λ p. not (mem p s) && balanced g (insert p s)) (g .n) 0 (extension g s)
+  extension-found : (s : ℕ) → Found (λ p. not (mem p s) && balanced g (insert p s)) (g .n) 0 (extension g s)
   unfolding extension
   extension-found s = found (λ p. not (mem p s) && balanced g (insert p s)) (g .n) 0
 
-  none-extends : (s : ℕ) → extension g s ≡ g .n → (p : ℕ) → mem p s ≡ false → Balanced g (insert p s) → ⊥
+  pub none-extends : (s : ℕ) → g .n ≤ extension g s → (p : ℕ) → mem p s ≡ false → Balanced g (insert p s) → ⊥
   none-extends s e p out b =
       let l : p < g .n = usable-lt g so (insert p s) (b .usable) p (insert-in p s) in
       clash (not (mem p s) && balanced g (insert p s))
@@ -117,7 +117,7 @@ module _ (g : SignedGraph) (so : Sound g) where
           right-side = right g s;
           sides = balanced-sides g so s (and-right c1 c2 e2);
           enough = and-right (c1 && c2) c3 e3;
-          maximal = single-maximal s b (none-extends s (eqb-true (extension g s) (g .n) (and-right (c1 && c2 && c3) c4 e)));
+          maximal = single-maximal s b (none-extends s (omega (arith, eqb-true (extension g s) (g .n) (and-right (c1 && c2 && c3) c4 e))));
         }
 
     pub words-group : Group g k s → isGroup g k s ≡ true

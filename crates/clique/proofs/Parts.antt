@@ -4,7 +4,6 @@ use mathlib.Core.Path.{_∙_}
 use Rattle.vertex_set.specs.Sets.{Subset}
 use Rattle.signed_graph.specs.declared.SignedGraph.{SignedGraph}
 use Rattle.signed_graph.proofs.Soundness.{Sound}
-use Rattle.signed_graph.specs.Tables.{negatives}
 use Rattle.signed_graph.specs.Thresholds.{Threshold}
 use Rattle.clique.specs.Balance.{Parts}
 use Rattle.clique.specs.Listing.{Item, Listed}

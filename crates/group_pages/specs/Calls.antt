@@ -8,7 +8,7 @@ use Rattle.clique.specs.Listing.{Item, itemSet, listing}
 use Rattle.pages.specs.declared.Bookmark.{Bookmark}
 use Rattle.pages.specs.declared.Page.{Page}
 use Rattle.pages.specs.Pages.{due, pageBy, bytesBy}
-use Rattle.pages.specs.Answers.{valuesBy}
+use Rattle.pages.specs.Answers.{pageValuesBy}
 use Rattle.group_pages.specs.Records.{recordWidth, recordOf}
 
 -- the groups for k due at a bookmark
@@ -24,4 +24,4 @@ pageBytes g k m buffer = bytesBy recordOf recordWidth (checkOf g k) (dueGroups g
 
 -- the answer as numbers: the count, finished or more, the next bookmark
 abbrev pub pageValuesOf : SignedGraph → Threshold → Bookmark → ℕ → List ℕ
-pageValuesOf g k m room = valuesBy itemSet recordWidth (checkOf g k) m room (dueGroups g k m)
+pageValuesOf g k m room = pageValuesBy itemSet recordWidth (checkOf g k) m room (dueGroups g k m)

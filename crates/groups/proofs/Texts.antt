@@ -18,11 +18,9 @@ use Rattle.signed_graph.specs.Calls.{checkOf}
 use Rattle.signed_graph.proofs.Soundness.{to-sound}
 use Rattle.signed_graph.proofs.Calls.{accepted-sound}
 use Rattle.pages.specs.declared.Bookmark.{Bookmark}
-use Rattle.clique.specs.Listing.{Item, listing}
-use Rattle.group_pages.specs.Records.{sidesRecord, recordOf, recordAt}
-use Rattle.pages.specs.Pages.{records}
-use Rattle.clique.specs.Listing.{itemSet}
-use Rattle.pages.specs.Pages.{pageBy, bytesBy}
+use Rattle.clique.specs.Listing.{Item, listing, itemSet}
+use Rattle.group_pages.specs.Records.{sidesRecord, recordOf, recordAt, recordWidth}
+use Rattle.pages.specs.Pages.{records, pageBy, bytesBy}
 use Rattle.group_pages.specs.Calls.{dueGroups, pageOf, pageBytes}
 use Rattle.group_pages.proofs.Records.{record-wide, record-there}
 use Rattle.pages.proofs.Pages.{paged}
@@ -32,8 +30,8 @@ use Rattle.report.specs.declared.Line.{Line}
 use Rattle.report.specs.declared.Line.the-variants.{Group}
 use Rattle.report.specs.Lines.{groupLine, lineText, longestLine}
 use Rattle.report.proofs.Words.{gather-short, line-short}
-use Rattle.groups.specs.Answers.{lineOfRecord, recordsText, groupsText}
-use Rattle.group_pages.specs.Records.{recordWidth}
+use Rattle.output.specs.Output.{groupsText}
+use Rattle.groups.specs.Records.{lineOfRecord, recordsText}
 use Rattle.groups.specs.Sizes.{pageRecords, pageRoom}
 
 -- what is written as a record reads back as the line of its sides

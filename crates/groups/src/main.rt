@@ -1,13 +1,11 @@
 // Prints the groups of a graph, the largest of them, and how many there are. Standard input has the threshold, one byte, and
 // then the edge list of the graph.
-use edge_list::Fault;
-use edge_list::Outcome;
+use output::Answer;
+use output::Closing;
 use pages::Bookmark;
 use pages::End;
 use pages::Page;
 use report::Line;
-use signed_graph::Check;
-use signed_graph::Refusal;
 use signed_graph::SignedGraph;
 ghost use mathlib.Core.Path.{_≡_};
 ghost use Prim.Native.Nat.{_*_, _/_, _≤_};
@@ -17,10 +15,10 @@ ghost use Rattle.signed_graph.specs.declared.Check.the-variants.{Accepted};
 ghost use Rattle.signed_graph.specs.Calls.{checkOf};
 ghost use Rattle.clique.specs.Listing.{listing as listed};
 ghost use Rattle.group_pages.specs.Calls.{dueGroups, pageOf};
-ghost use Rattle.largest.specs.Largest.{largestGroup};
 ghost use Rattle.report.specs.Lines.{lineText, longestLine};
-ghost use Rattle.groups.specs.Answers.{lineOfRecord, lineOfLargest, lineOfFault, lineOfRefusal, recordsText, groupsText};
 ghost use Rattle.group_pages.specs.Records.{recordWidth};
+ghost use Rattle.output.specs.Output.{groupsText, closingText, closingFor};
+ghost use Rattle.groups.specs.Records.{lineOfRecord, recordsText};
 ghost use Rattle.groups.specs.Sizes.{pageRecords, pageRoom};
 
 // The records for which a page has room.
@@ -31,6 +29,9 @@ const PAGE: usize = group_pages::RECORD_BYTES * PAGE_RECORDS;
 
 // Enough bytes for the lines of a page.
 const PAGE_TEXT: usize = PAGE_RECORDS * report::LONGEST;
+
+// Enough bytes for the two lines behind the groups.
+const CLOSING_TEXT: usize = 2 * report::LONGEST;
 
 // A page, and how many bytes its lines take.
 struct PageText {
@@ -47,12 +48,6 @@ fn put_line(line: Line, text: &mut [u8]) -> usize
     report::write(line, text)
 }
 
-fn print(line: Line) {
-    let mut text = [0u8; report::LONGEST];
-    let end = put_line(line, &mut text);
-    io::write_all(1, &text[..end]);
-}
-
 // The line of a record.
 fn record_line(bytes: &[u8]) -> Line
     requires { ⌜ recordWidth ≤ length (now bytes) ⌝ }
@@ -62,32 +57,6 @@ fn record_line(bytes: &[u8]) -> Line
     let middle: usize = 8;
     let right = words::read_word(&bytes[middle..]);
     Line::Group(left, right)
-}
-
-// The line of the largest group, or that there is none.
-fn largest_line(g: SignedGraph, k: u64) -> Line
-    ensures { λ r. ⌜ r ≡ lineOfLargest (largestGroup g k) ⌝ }
-{
-    let largest = largest::largest(g, k);
-    let outcome = largest.outcome;
-    match outcome {
-        Check::Accepted => Line::Largest(largest.left, largest.right),
-        Check::Refused(_) => Line::NoLargest,
-    }
-}
-
-// The line of a refused edge list.
-fn fault_line(fault: Fault) -> Line
-    ensures { λ r. ⌜ r ≡ lineOfFault fault ⌝ }
-{
-    Line::Fault(fault.number(), fault.place())
-}
-
-// The line of a refused call.
-fn refusal_line(why: Refusal) -> Line
-    ensures { λ r. ⌜ r ≡ lineOfRefusal why ⌝ }
-{
-    Line::Refusal(why.number())
 }
 
 // Writes the lines of records, and returns how many bytes they take.
@@ -152,49 +121,47 @@ fn print_groups(g: SignedGraph, k: u64) -> u64
     }
 }
 
-fn print_fault(outcome: Outcome) {
-    if let Outcome::Refused(fault) = outcome {
-        print(fault_line(fault));
+// Prints the groups that are due for an input, and returns the lines that are due behind them.
+fn print_due(input: &[u8]) -> Closing
+    ensures { λ r. ⌜ r ≡ closingFor (now (input .entry)) ⌝ }
+{
+    let due = output::due_for(input);
+    let answer = due.answer;
+    let g = due.graph;
+    let k = due.threshold;
+    match answer {
+        Answer::Refused(line) => Closing::Refused(line),
+        Answer::Groups => {
+            let count = print_groups(g, k);
+            output::closing_lines(g, k, count)
+        }
     }
 }
 
-fn print_refusal(checked: Check) {
-    if let Check::Refused(why) = checked {
-        print(refusal_line(why));
+// Writes the lines behind the groups, and returns how many bytes they take.
+fn put_closing(closing: Closing, text: &mut [u8]) -> usize
+    requires { ⌜ longestLine * 2 ≤ length (now text) ⌝ }
+    ensures length { λ r. ⌜ r ≡ length (closingText closing) ⌝ }
+    ensures bytes { λ r. ⌜ now (text .exit) ≡ overwritten (closingText closing) (now (text .entry)) ⌝ }
+{
+    match closing {
+        Closing::Refused(line) => put_line(line, text),
+        Closing::Lines(largest, count) => {
+            let start = put_line(largest, text);
+            let rest = put_line(count, &mut text[start..]);
+            start + rest
+        }
     }
 }
 
-// Prints what there is to say of an edge list and a threshold.
-fn answer(k: u64, list: &[u8]) {
-    let decoded = edge_list::decode(list);
-    let outcome = decoded.outcome;
-    let Outcome::Accepted = outcome else {
-        print_fault(outcome);
-        return;
-    };
-    let g = decoded.graph;
-    let checked = signed_graph::check_call(g, k);
-    let Check::Accepted = checked else {
-        print_refusal(checked);
-        return;
-    };
-    let count = print_groups(g, k);
-    print(largest_line(g, k));
-    print(Line::Count(count));
-}
-
-// An empty input is the threshold 0 and an empty edge list.
-fn answer_input(input: &[u8]) {
-    if input.len() == 0 {
-        answer(0, input);
-        return;
-    }
-    let start: usize = 1;
-    answer(input[0] as u64, &input[start..]);
+fn print_closing(closing: Closing) {
+    let mut text = [0u8; CLOSING_TEXT];
+    let end = put_closing(closing, &mut text);
+    io::write_all(1, &text[..end]);
 }
 
 fn main() {
     let mut space = io::large_buffer();
     let n = io::read_full(0, &mut space);
-    answer_input(&space[..n]);
+    print_closing(print_due(&space[..n]));
 }

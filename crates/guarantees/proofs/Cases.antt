@@ -36,14 +36,14 @@ use Rattle.pages.specs.declared.Bookmark.the-variants.{Start, After}
 use Rattle.pages.specs.declared.End.the-variants.{Finished}
 use Rattle.signed_graph.specs.declared.Refusal.the-variants.{NoGroup}
 use Rattle.largest.specs.declared.LargestGroup.{LargestGroup}
-use Rattle.clique.specs.Listing.{Item, itemOf, listing}
+use Rattle.clique.specs.Listing.{Item, itemOf, listing, itemSet}
 use Rattle.words.specs.Words.{wordBytes}
 use Rattle.group_pages.specs.Records.{recordWidth, sidesRecord, recordOf}
-use Rattle.pages.specs.Pages.{due, nextMark, records, answer, filled}
-use Rattle.clique.specs.Listing.{itemSet}
-use Rattle.pages.specs.Pages.{pageBy, bytesBy}
+use Rattle.pages.specs.Pages.{due, nextMark, records, answer, filled, pageBy, bytesBy}
 use Rattle.group_pages.specs.Calls.{dueGroups, pageOf, pageBytes}
 use Rattle.largest.specs.Largest.{largestOf, largestGroupBy, largestGroup}
+use Rattle.output.specs.Output.{printed}
+use Rattle.output.proofs.Cases.{linesA, cases-outputs}
 
 -- a group by its left and its right vertices
 abbrev group : List ℕ → List ℕ → Item
@@ -69,8 +69,9 @@ pub record Cases : Type 0 where
   -- the positive edges 0,1 and 1,2: each of them, since 0 and 2 have no edge
   pub T4-list : decoded listT4 ≡ accepted chain
   pub T4 : listing chain 0 ≡ group (0 ∷ 1 ∷ []) [] ∷ group (1 ∷ 2 ∷ []) [] ∷ []
-  -- A at k = 1: two groups, the first of them the largest
+  -- A at k = 1: two groups, the first of them the largest; and the four lines that the program prints
   pub T5 : listing sampleA 1 ≡ group (0 ∷ 1 ∷ []) (2 ∷ 3 ∷ []) ∷ group (0 ∷ 4 ∷ []) (2 ∷ []) ∷ []
+  pub T5-printed : printed (1 ∷ listA) ≡ linesA
   pub T5-largest : largestGroup sampleA 1 ≡ record { outcome = Accepted; left = set (0 ∷ 1 ∷ []); right = set (2 ∷ 3 ∷ []) }
   -- A at k = 2: the larger alone; reduced for 2 it has 6 edges, reduced for 1 all 8
   pub T6 : listing sampleA 2 ≡ group (0 ∷ 1 ∷ []) (2 ∷ 3 ∷ []) ∷ []
@@ -174,6 +175,7 @@ cases =
       T4-list = decodes .T4;
       T4 = ap (map (itemOf chain)) (cases-groups .T4);
       T5 = at-T5;
+      T5-printed = cases-outputs .T5;
       T5-largest = at-T5-largest;
       T6 = ap (map (itemOf sampleA)) (reduction.cases-groups .T6);
       T6-edges = reduction.cases-reductions .T6-edges;

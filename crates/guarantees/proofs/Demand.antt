@@ -24,11 +24,9 @@ use Rattle.pages.specs.declared.Bookmark.{Bookmark}
 use Rattle.pages.specs.declared.Bookmark.the-variants.{Start}
 use Rattle.pages.specs.declared.Page.{Page}
 use Rattle.largest.specs.declared.LargestGroup.{LargestGroup}
-use Rattle.clique.specs.Listing.{Item, itemOf, comesBefore, listing}
+use Rattle.clique.specs.Listing.{Item, itemOf, comesBefore, listing, itemSet}
 use Rattle.group_pages.specs.Records.{recordWidth, recordOf}
-use Rattle.pages.specs.Pages.{due, answer, filled}
-use Rattle.clique.specs.Listing.{itemSet}
-use Rattle.pages.specs.Pages.{pageBy, bytesBy}
+use Rattle.pages.specs.Pages.{due, answer, filled, pageBy, bytesBy}
 use Rattle.group_pages.specs.Calls.{dueGroups}
 use Rattle.largest.specs.Largest.{larger, largestOf, largestOrNone, largestGroupBy, largestGroup}
 use Rattle.group_pages.proofs.Records.{record-wide}
@@ -69,7 +67,7 @@ idle (Refused why) c l p q e =
       told = ap (λ (a : Page). a .end) p;
     }
 
-ran-idle : (c : Call) → Ran c → taken c ≡ false → Idle (callStep c)
+pub ran-idle : (c : Call) → Ran c → taken c ≡ false → Idle (callStep c)
 ran-idle c h = idle (checkOf (c .graph) (c .k)) c (dueGroups (c .graph) (c .k) (c .from)) (h .answered) (h .wrote)
 
 -- ---- the largest group
@@ -84,10 +82,10 @@ largest-of (x ∷ l) h r e =
     }
 
 module _ (S : SignedGraph) (k : ℕ) (sound-S : sound S ≡ true) (small : k ≤ 32) where
-  so : Sound S
+  pub so : Sound S
   so = to-sound S sound-S
 
-  sorted : Sorted comesBefore (listing S k)
+  pub sorted : Sorted comesBefore (listing S k)
   sorted = listing-sorted S so k
 
   -- ---- S and S reduced
@@ -101,7 +99,7 @@ module _ (S : SignedGraph) (k : ℕ) (sound-S : sound S ≡ true) (small : k ≤
   one-sound g (inl e) = ap sound e ∙ sound-S
   one-sound g (inr e) = ap sound e ∙ reduce-keeps S k sound-S small .0
 
-  one-check : (g : SignedGraph) → OneOf S k g → checkOf g k ≡ Accepted
+  pub one-check : (g : SignedGraph) → OneOf S k g → checkOf g k ≡ Accepted
   one-check g o = ap₂ checkBy (one-sound g o) (le-leb k 32 small)
 
   -- ---- the page calls
@@ -123,7 +121,7 @@ module _ (S : SignedGraph) (k : ℕ) (sound-S : sound S ≡ true) (small : k ≤
     unfolding answer
     is-taken = ap (λ (a : Page). isAccepted (a .outcome)) answered
 
-    is-page : Paged itemSet recordOf recordWidth (listing S k) (c .from) (c .entry) (c .answer) (c .exit)
+    pub is-page : Paged itemSet recordOf recordWidth (listing S k) (c .from) (c .entry) (c .answer) (c .exit)
     is-page =
         subst (λ (a : Page). Paged itemSet recordOf recordWidth (listing S k) (c .from) (c .entry) a (c .exit)) (sym answered)
         (subst (Paged itemSet recordOf recordWidth (listing S k) (c .from) (c .entry) _) (sym wrote)
@@ -147,10 +145,11 @@ module _ (S : SignedGraph) (k : ℕ) (sound-S : sound S ≡ true) (small : k ≤
 
   -- ---- the whole
 
+  pub one-largest : (g : SignedGraph) → OneOf S k g → largestGroup g k ≡ largestOrNone (largestOf (listing S k))
+  one-largest g o = ap₂ (λ (x : Check) (l : List Item). largestGroupBy x (largestOf l)) (one-check g o) (one-listing g o)
+
   largest-one : (g : SignedGraph) → OneOf S k g → (r : LargestGroup) → r ≡ largestGroup g k → Largest (listing S k) r
-  largest-one g o r e =
-      largest-of (listing S k) sorted r
-      (e ∙ ap₂ (λ (x : Check) (l : List Item). largestGroupBy x (largestOf l)) (one-check g o) (one-listing g o))
+  largest-one g o r e = largest-of (listing S k) sorted r (e ∙ one-largest g o)
 
   whole : (calls : List Call) → Linked S k Start calls → Demand3 S k calls
   whole calls h =

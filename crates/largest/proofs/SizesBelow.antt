@@ -15,8 +15,7 @@ use Rattle.nodes.specs.Nodes.{chosen, Below}
 use Rattle.bounds.specs.Bounds.{AtMost, NoneLarger}
 use Rattle.clique.proofs.Listing.{listed-cases}
 use Rattle.vertex_set.proofs.SizeBounds.{size-cover}
-use Rattle.clique.proofs.Parts.{parts-within}
-use Rattle.clique.proofs.Parts.{listed-parts}
+use Rattle.clique.proofs.Parts.{parts-within, listed-parts}
 
 -- ---- a group below a node
 

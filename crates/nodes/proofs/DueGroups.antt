@@ -15,9 +15,8 @@ use Rattle.signed_graph.specs.Thresholds.{Threshold}
 use Rattle.clique.proofs.Balance.{usable-64}
 use Rattle.pages.specs.declared.Bookmark.{Bookmark}
 use Rattle.nodes.specs.declared.Node.{Node}
-use Rattle.clique.specs.Listing.{Item, Listed, comesBefore, listing}
+use Rattle.clique.specs.Listing.{Item, Listed, comesBefore, listing, itemSet}
 use Rattle.pages.specs.Pages.{dueAt}
-use Rattle.clique.specs.Listing.{itemSet}
 use Rattle.group_pages.specs.Calls.{dueGroups}
 use Rattle.pages.specs.Filling.{Past}
 use Rattle.nodes.specs.Nodes.{chosen, undecided, rootOf, leaveOut, withVertex, Valid, Below, Barren, Same, leafItem, groupAt}

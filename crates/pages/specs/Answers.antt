@@ -32,9 +32,9 @@ pageValues p = p .count ∷ endNumber (p .end) ∷ markKind (p .next) ∷ markSe
 
 -- those that a call answers with, by its check: a refused one has count 0, more, and the bookmark that was given
 module _ {X : Type 0} (set : X → ℕ) (width : ℕ) where
-  abbrev pub valuesBy : Check → Bookmark → ℕ → List X → List ℕ
-  valuesBy Accepted m room l =
+  abbrev pub pageValuesBy : Check → Bookmark → ℕ → List X → List ℕ
+  pageValuesBy Accepted m room l =
       let count = fitting width room l in
       let next = nextMark set m (take count l) in
       count ∷ endNumber (finishedIf (leb (length l) count)) ∷ markKind next ∷ markSet next ∷ []
-  valuesBy (Refused why) m room l = 0 ∷ endNumber More ∷ markKind m ∷ markSet m ∷ []
+  pageValuesBy (Refused why) m room l = 0 ∷ endNumber More ∷ markKind m ∷ markSet m ∷ []

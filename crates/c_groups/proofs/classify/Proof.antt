@@ -30,7 +30,7 @@ returns-2 c =
     let g = s .before in
     let i = g .before in
     rw (passes (i .before .own-refusal .ensures) (i .if1 .left), ← g .graph-at .ensures)
-    (c .classified-number .ensures ∙ s .classify .ensures .1, w .put-words .ensures ∙ rw (v .classified-words .ensures, s .classify .ensures .0))
+    (c .classified-number .ensures ∙ s .classify .ensures .1 .0, w .put-words .ensures ∙ rw (v .classified-words .ensures, s .classify .ensures .0))
 
 pub classify-spec : {M : Type 1} → statement M
 classify-spec =

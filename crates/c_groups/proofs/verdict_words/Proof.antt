@@ -16,7 +16,7 @@ verdict-words-spec =
     (λ c. search needs)
     (λ c. search needs)
     (λ c. search needs)
-    (λ c. search needs)
+    (λ c. ap verdictWords (sym (c .enum-told .given .1)))
     (λ c. ap verdictWords (sym (c .before .verdict .given .1)))
     (λ c. ap verdictWords (sym (c .before .verdict2 .given .1)))
     (λ c. ap verdictWords (sym (c .before .verdict3 .given .1)))

@@ -12,7 +12,7 @@ use Rattle.pages.specs.declared.Bookmark.{Bookmark}
 use Rattle.pages.specs.declared.Page.{Page}
 use Rattle.group_pages.specs.Calls.{pageOf}
 use Rattle.group_pages.proofs.Counts.{page-fits}
-use Rattle.groups.specs.Answers.{recordsText}
+use Rattle.groups.specs.Records.{recordsText}
 use Rattle.group_pages.specs.Records.{recordWidth}
 use Rattle.groups.specs.Sizes.{pageRoom}
 use Rattle.groups.proofs.Texts.{page-text}

@@ -9,7 +9,7 @@ use Rattle.vertex_set.proofs.Ranges.{gather-end}
 use Rattle.vertex_set.proofs.Buffers.{Laid, laid-start, laid-as, laid-room, laid-long, laid-piece, laid-length, laid-end}
 use Rattle.report.specs.Lines.{lineText, longestLine}
 use Rattle.report.proofs.Words.{line-short}
-use Rattle.groups.specs.Answers.{recordsText}
+use Rattle.groups.specs.Records.{recordsText}
 use Rattle.group_pages.specs.Records.{recordWidth}
 use Rattle.groups.proofs.Texts.{lineAt, record-long, records-short, line-next}
 use Rattle.groups.proofs.put_records.Statement.{statement}

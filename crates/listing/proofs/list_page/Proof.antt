@@ -11,8 +11,7 @@ use Rattle.signed_graph.proofs.Calls.{accepted-sound}
 use Rattle.signed_graph.specs.Thresholds.{Threshold}
 use Rattle.pages.specs.declared.Bookmark.{Bookmark}
 use Rattle.pages.specs.declared.Page.{Page}
-use Rattle.pages.specs.Pages.{answer}
-use Rattle.pages.specs.Pages.{pageBy, bytesBy}
+use Rattle.pages.specs.Pages.{answer, pageBy, bytesBy}
 use Rattle.pages.specs.Answers.{pageValues}
 use Rattle.pages.proofs.Answers.{page-values}
 use Rattle.clique.specs.Listing.{itemSet}

@@ -1,0 +1,94 @@
+-- The texts of all pages, one behind the other, are the lines of all groups: with the lines behind them, all that is to be printed.
+-- Assumes nothing.
+use Prim.Native.Nat.{ℕ, zero, suc, _<_}
+use native.Mathlib.Omega.{arith}
+use mathlib.Core.Path.{_≡_, refl, sym, ap, _∙_, subst}
+use mathlib.Core.List.{List, [], _∷_, _++_, append-assoc, append-nil}
+use lib.ListN.{length, take, drop, take-append-drop}
+use lib.Seq.{take-all}
+use Rattle.signed_graph.specs.declared.SignedGraph.{SignedGraph}
+use Rattle.signed_graph.specs.declared.Check.{Check}
+use Rattle.signed_graph.specs.declared.Check.the-variants.{Accepted}
+use Rattle.signed_graph.specs.Calls.{checkOf}
+use Rattle.signed_graph.proofs.Soundness.{to-sound}
+use Rattle.signed_graph.proofs.Calls.{accepted-sound}
+use Rattle.clique.specs.Listing.{Item, itemSet, listing}
+use Rattle.clique.proofs.Listing.{listing-sorted}
+use Rattle.pages.specs.declared.Bookmark.{Bookmark}
+use Rattle.pages.specs.declared.Bookmark.the-variants.{Start}
+use Rattle.pages.specs.declared.End.{End}
+use Rattle.pages.specs.declared.End.the-variants.{Finished, More}
+use Rattle.pages.specs.Pages.{due, pageBy}
+use Rattle.pages.proofs.Pages.{answer-next}
+use Rattle.group_pages.specs.Records.{recordWidth}
+use Rattle.group_pages.specs.Calls.{dueGroups, pageOf}
+use Rattle.group_pages.proofs.Counts.{page-last, page-fits, fewer-due}
+use Rattle.report.specs.Lines.{groupLine}
+use Rattle.output.specs.declared.Answer.{Answer}
+use Rattle.output.specs.declared.Answer.the-variants.{Groups}
+use Rattle.output.specs.Output.{dueFor, groupsText, listingText, closingText, closingFor, printed}
+use Rattle.output.proofs.Printed.{due-checked}
+use Rattle.groups.specs.Sizes.{pageRecords, pageRoom}
+
+groups-append : (a b : List Item) → groupsText (a ++ b) ≡ groupsText a ++ groupsText b
+unfolding groupsText
+groups-append [] b = refl
+groups-append (x ∷ a) b =
+    ap (λ (t : List ℕ). groupLine (x .left) (x .right) ++ t) (groups-append a b)
+    ∙ sym (append-assoc (groupLine (x .left) (x .right)) (groupsText a) (groupsText b))
+
+-- what follows a page: nothing where it says finished
+abbrev following : End → List ℕ → List ℕ
+following Finished t = []
+following More t = t
+
+module _ (g : SignedGraph) (k : ℕ) where
+  -- the texts of the pages from a bookmark on, n of them at most
+  unfoldable pub pagesText : ℕ → Bookmark → List ℕ
+  pagesText zero m = []
+  pagesText (suc n) m =
+      groupsText (take pageRecords (dueGroups g k m)) ++ following (pageOf g k m pageRoom .end) (pagesText n (pageOf g k m pageRoom .next))
+
+  module _ (a : checkOf g k ≡ Accepted) where
+    next-due : (m : Bookmark) → dueGroups g k (pageOf g k m pageRoom .next) ≡ drop pageRecords (dueGroups g k m)
+    next-due m =
+        subst (λ (c : Check). dueGroups g k (pageBy itemSet recordWidth c m pageRoom (dueGroups g k m) .next) ≡ drop pageRecords (dueGroups g k m))
+        (sym a) (answer-next itemSet recordWidth (listing g k) (listing-sorted g (to-sound g (accepted-sound g k a)) k) m pageRoom)
+
+    -- with pages enough, they are the lines of all groups that are due
+    pages-due : (n : ℕ) (m : Bookmark) → length (dueGroups g k m) < n → pagesText n m ≡ groupsText (dueGroups g k m)
+    unfolding pagesText
+    pages-due zero m h = absurd (omega arith)
+    pages-due (suc n) m h = go (pageOf g k m pageRoom .end) refl (pages-due n (pageOf g k m pageRoom .next))
+      where
+        ds : List Item
+        ds = dueGroups g k m
+
+        rest : List Item
+        rest = dueGroups g k (pageOf g k m pageRoom .next)
+
+        go : (e : End) → pageOf g k m pageRoom .end ≡ e
+            → (length rest < n → pagesText n (pageOf g k m pageRoom .next) ≡ groupsText rest)
+            → groupsText (take pageRecords ds) ++ following e (pagesText n (pageOf g k m pageRoom .next)) ≡ groupsText ds
+        go Finished e ih =
+            append-nil (groupsText (take pageRecords ds))
+            ∙ ap groupsText (take-all pageRecords ds (omega (arith, page-last g k m pageRoom e, page-fits g k m pageRoom)))
+        go More e ih =
+            ap (λ (t : List ℕ). groupsText (take pageRecords ds) ++ t)
+            (ih (omega (arith, fewer-due g k m pageRoom (omega arith) a e)) ∙ ap groupsText (next-due m))
+            ∙ sym (groups-append (take pageRecords ds) (drop pageRecords ds))
+            ∙ ap groupsText (take-append-drop pageRecords ds)
+
+    pages-listing : (n : ℕ) → length (listing g k) < n → pagesText n Start ≡ groupsText (listing g k)
+    unfolding due
+    pages-listing n h = pages-due n Start h
+
+-- where groups are due, the texts of the pages and then the lines behind them are printed
+pub pages-printed : (input : List ℕ) (n : ℕ) → dueFor input .answer ≡ Groups → length (listing (dueFor input .graph) (dueFor input .threshold)) < n
+    → printed input ≡ pagesText (dueFor input .graph) (dueFor input .threshold) n Start ++ closingText (closingFor input)
+unfolding printed
+pages-printed input n e h =
+    let d = dueFor input in
+    ap (λ (x : Answer). listingText x (d .graph) (d .threshold) ++ closingText (closingFor input)) e
+    ∙ ap (λ (t : List ℕ). t ++ closingText (closingFor input))
+    (sym (pages-listing (d .graph) (d .threshold) (due-checked input d refl e) n h))
