@@ -12,7 +12,7 @@ use Rattle.pages.specs.declared.End.the-variants.{Finished, More}
 use Rattle.pages.specs.declared.Page.{Page}
 use Rattle.c_pages.specs.Answers.{markAt}
 
--- the outcome, by the number returned: 0, 10, 11, 12, or another
+-- the outcome, by the number returned: document 01's; any other counts as the last of them, which no page call returns
 abbrev pub checkTold : ℕ → Check
 checkTold number =
     provided (eqb number 0) Accepted
