@@ -288,8 +288,8 @@ fn largest_sound(g: SignedGraph, k: u64) -> LargestGroup
 
 // The group for k with the most vertices; of equals, the first in listing order.
 pub fn largest(g: SignedGraph, k: u64) -> LargestGroup
-    ensures { λ r. ⌜ r ≡ largestGroup g k ⌝ }
-    ensures { λ r. ⌜ checkNumber (r .outcome) ≡ largestNumber g k ⌝ }
+    ensures answer { λ r. ⌜ r ≡ largestGroup g k ⌝ }
+    ensures number { λ r. ⌜ checkNumber (r .outcome) ≡ largestNumber g k ⌝ }
 {
     match signed_graph::check_call(g, k) {
         Check::Refused(refusal) => LargestGroup {

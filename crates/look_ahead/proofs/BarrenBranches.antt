@@ -11,14 +11,14 @@ use Rattle.vertex_set.specs.Sets.{mem, lowest}
 use Rattle.vertex_set.proofs.Booleans.{clash, cases}
 use Rattle.vertex_set.proofs.Membership.{mem-none, mem-past}
 use Rattle.vertex_set.proofs.LowestVertex.{rest}
-use Rattle.vertex_set.proofs.Sweeps.{Sweep, sweep-begin, sweep-here, sweep-step}
+use Rattle.vertex_set.proofs.Traversals.{Traversal, traversal-begin, traversal-here, traversal-step}
 use Rattle.signed_graph.proofs.Soundness.{to-sound}
 use Rattle.signed_graph.specs.Thresholds.{Threshold}
 use Rattle.clique.proofs.Balance.{usable-64}
 use Rattle.nodes.specs.declared.Node.{Node}
 use Rattle.look_ahead.specs.declared.Fewest.{Fewest}
 use Rattle.nodes.specs.Nodes.{undecided, short, putIn, leaveOut, Conflicts}
-use Rattle.look_ahead.specs.LookAhead.{SmallerOf, Unopposed, FewestConflicts, Narrowest, FindsBarren}
+use Rattle.look_ahead.specs.LookAhead.{SmallerOf, FitsBesideAll, FewestConflicts, Narrowest, FindsBarren}
 use Rattle.nodes.proofs.Nodes.{put-valid, out-valid}
 use Rattle.nodes.proofs.Falling.{Decides}
 use Rattle.nodes.proofs.Below.{below-put, below-out}
@@ -28,23 +28,23 @@ use Rattle.nodes.proofs.Prunes.{short-barren, required-left, required-right}
 
 module _ (positive negative : List ℕ) (excluded near far : ℕ) (start : Fewest) where
   pub record Narrowing (left : ℕ) (found : Fewest) : Type 0 where
-    pub sweep : Sweep excluded left
+    pub traversal : Traversal excluded left
     pub from : FewestConflicts positive negative excluded near far start found
 
   pub narrowing-begin : excluded < 2 ^ 64 → Narrowing excluded start
-  narrowing-begin h = record { sweep = sweep-begin excluded h; from = λ e. inl e }
+  narrowing-begin h = record { traversal = traversal-begin excluded h; from = λ e. inl e }
 
   pub narrowing-step : {left : ℕ} {found : Fewest} → Narrowing left found → 0 < left → (x against : ℕ) (next : Fewest) → x ≡ lowest left
       → Conflicts near far (getD positive x 0) (getD negative x 0) against → SmallerOf found against next → Narrowing (rest left) next
   narrowing-step {left} {found} h pos x against next is c fewer =
-      record { sweep = sweep-step (h .sweep) pos; from = λ e. go (fewer e) }
+      record { traversal = traversal-step (h .traversal) pos; from = λ e. go (fewer e) }
     where
-      go : (found .none ≡ true) ⊎ (against ≡ 0) → (start .none ≡ true) ⊎ Unopposed positive negative excluded near far
+      go : (found .none ≡ true) ⊎ (against ≡ 0) → (start .none ≡ true) ⊎ FitsBesideAll positive negative excluded near far
       go (inl e) = h .from e
       go (inr z) =
           inr (λ u. record {
             by = x;
-            out = ap (λ (y : ℕ). mem y excluded) is ∙ sweep-here (h .sweep) pos;
+            out = ap (λ (y : ℕ). mem y excluded) is ∙ traversal-here (h .traversal) pos;
             same = λ w j _. c .same w j (ap (mem w) z ∙ mem-none w);
             cross = λ w j _. c .cross w j (ap (mem w) z ∙ mem-none w);
           })
@@ -57,10 +57,10 @@ pub narrowest-of : (positive negative : List ℕ) (d : Node) (start first r : Fe
 narrowest-of positive negative d start first r known a b e = second (b e)
   where
     OnLeft : Type 0
-    OnLeft = Unopposed positive negative (d .left .excluded) (d .left .candidates) (d .right .candidates)
+    OnLeft = FitsBesideAll positive negative (d .left .excluded) (d .left .candidates) (d .right .candidates)
 
     OnRight : Type 0
-    OnRight = Unopposed positive negative (d .right .excluded) (d .right .candidates) (d .left .candidates)
+    OnRight = FitsBesideAll positive negative (d .right .excluded) (d .right .candidates) (d .left .candidates)
 
     initial : (start .none ≡ true) ⊎ OnLeft → OnLeft ⊎ OnRight
     initial (inl i) = clash (start .none) i known
@@ -85,8 +85,8 @@ module _ (positive negative : List ℕ) (k : Threshold) (d : Node) where
       none : mem 64 (x .vertices) ≡ true → ⊥
       none m = clash (mem 64 (x .vertices)) m (mem-past 64 64 (x .vertices) (usable-64 _ (to-sound _ so) (x .vertices) (lx .group .balanced .usable)) (omega arith))
 
-      go : Unopposed positive negative (d .left .excluded) (d .left .candidates) (d .right .candidates)
-          ⊎ Unopposed positive negative (d .right .excluded) (d .right .candidates) (d .left .candidates) → ⊥
+      go : FitsBesideAll positive negative (d .left .excluded) (d .left .candidates) (d .right .candidates)
+          ⊎ FitsBesideAll positive negative (d .right .excluded) (d .right .candidates) (d .left .candidates) → ⊥
       go (inl u) = none (required-left _ (to-sound _ so) k d va 64 x lx b (u 64))
       go (inr u) = none (required-right _ (to-sound _ so) k d va 64 x lx b (u 64))
 

@@ -15,18 +15,18 @@ abbrev pub SmallerOf : Fewest → ℕ → Fewest → Type 0
 SmallerOf found candidates r = r .none ≡ true → (found .none ≡ true) ⊎ (candidates ≡ 0)
 
 -- a vertex of `excluded` fits on its side beside every candidate
-abbrev pub Unopposed : List ℕ → List ℕ → ℕ → ℕ → ℕ → Type 0
-Unopposed positive negative excluded near far = (u : ℕ) → Sole positive negative excluded near far u
+abbrev pub FitsBesideAll : List ℕ → List ℕ → ℕ → ℕ → ℕ → Type 0
+FitsBesideAll positive negative excluded near far = (u : ℕ) → Sole positive negative excluded near far u
 
 abbrev pub FewestConflicts : List ℕ → List ℕ → ℕ → ℕ → ℕ → Fewest → Fewest → Type 0
 FewestConflicts positive negative excluded near far found r =
-    r .none ≡ true → (found .none ≡ true) ⊎ Unopposed positive negative excluded near far
+    r .none ≡ true → (found .none ≡ true) ⊎ FitsBesideAll positive negative excluded near far
 
 abbrev pub Narrowest : List ℕ → List ℕ → Node → Fewest → Type 0
 Narrowest positive negative d r =
     r .none ≡ true
-    → Unopposed positive negative (d .left .excluded) (d .left .candidates) (d .right .candidates)
-    ⊎ Unopposed positive negative (d .right .excluded) (d .right .candidates) (d .left .candidates)
+    → FitsBesideAll positive negative (d .left .excluded) (d .left .candidates) (d .right .candidates)
+    ⊎ FitsBesideAll positive negative (d .right .excluded) (d .right .candidates) (d .left .candidates)
 
 -- a test holds only of a node with no group below
 abbrev pub FindsBarren : List ℕ → List ℕ → Threshold → Node → Bool → Type 0

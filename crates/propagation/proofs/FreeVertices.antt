@@ -10,7 +10,7 @@ use Rattle.vertex_set.specs.Sets.{mem, Subset, lowest, single}
 use Rattle.vertex_set.proofs.Booleans.{clash}
 use Rattle.vertex_set.proofs.Membership.{mem-none, none-in, union-cases, meet-left, meet-right}
 use Rattle.vertex_set.proofs.LowestVertex.{lowest-lt, rest}
-use Rattle.vertex_set.proofs.Sweeps.{Sweep, sweep-begin, sweep-step, gone}
+use Rattle.vertex_set.proofs.Traversals.{Traversal, traversal-begin, traversal-step, gone}
 use Rattle.propagation.specs.declared.Fitting.{Fitting}
 use Rattle.nodes.specs.declared.Node.{Node}
 use Rattle.propagation.specs.Propagation.{Beside, otherWay, FreeSides}
@@ -19,45 +19,45 @@ use Rattle.vertex_set.proofs.Singles.{single-is}
 module _ (positive negative : List ℕ) (candidates near far : ℕ) where
   -- same and cross fit beside the candidates that are not left
   pub record Passing (left same cross : ℕ) : Type 0 where
-    pub sweep : Sweep candidates left
+    pub traversal : Traversal candidates left
     pub near-of : Subset same near
     pub far-of : Subset cross far
     pub fit : (u w : ℕ) → mem u same ≡ true → mem w candidates ≡ true → mem w left ≡ false → w ≢ u
         → mem u (getD positive w 0) ≡ true
-    pub oppose : (u w : ℕ) → mem u cross ≡ true → mem w candidates ≡ true → mem w left ≡ false
+    pub across : (u w : ℕ) → mem u cross ≡ true → mem w candidates ≡ true → mem w left ≡ false
         → mem u (getD negative w 0) ≡ true
 
   pub passing-begin : candidates < 2 ^ 64 → Passing candidates near far
   passing-begin h =
       record {
-        sweep = sweep-begin candidates h;
+        traversal = traversal-begin candidates h;
         near-of = λ p m. m;
         far-of = λ p m. m;
         fit = λ u w _ m off _. clash (mem w candidates) m off;
-        oppose = λ u w _ m off. clash (mem w candidates) m off;
+        across = λ u w _ m off. clash (mem w candidates) m off;
       }
 
   module _ {left same cross : ℕ} (h : Passing left same cross) (pos : 0 < left) (w : ℕ) (is : w ≡ lowest left) where
     small : w < 64
-    small = subst (λ (z : ℕ). z < 64) (sym is) (lowest-lt left pos (h .sweep .fits))
+    small = subst (λ (z : ℕ). z < 64) (sym is) (lowest-lt left pos (h .traversal .fits))
 
     pub passing-step : (one : ℕ) → one ≡ single w
         → Passing (rest left) (bitAnd same (bitOr (getD positive w 0) one)) (bitAnd cross (getD negative w 0))
     passing-step one e =
         record {
-          sweep = sweep-step (h .sweep) pos;
+          traversal = traversal-step (h .traversal) pos;
           near-of = λ p m. h .near-of p (meet-left p same (bitOr plus one) m);
           far-of = λ p m. h .far-of p (meet-left p cross minus m);
           fit = λ u v m i off ne.
-              gone (h .sweep) pos v off
+              gone (h .traversal) pos v off
               (λ y. union-cases (mem u (getD positive v 0) ≡ true) u plus one (meet-right u same (bitOr plus one) m)
               (λ z. ap (λ (t : ℕ). mem u (getD positive t 0)) (y ∙ sym is) ∙ z)
               (λ z. absurd (ne (y ∙ sym is ∙ sym (single-is w small u (ap (mem u) (sym e) ∙ z))))))
               (λ y. h .fit u v (meet-left u same (bitOr plus one) m) i y ne);
-          oppose = λ u v m i off.
-              gone (h .sweep) pos v off
+          across = λ u v m i off.
+              gone (h .traversal) pos v off
               (λ y. ap (λ (t : ℕ). mem u (getD negative t 0)) (y ∙ sym is) ∙ meet-right u cross minus m)
-              (λ y. h .oppose u v (meet-left u cross minus m) i y);
+              (λ y. h .across u v (meet-left u cross minus m) i y);
         }
       where
         plus : ℕ
@@ -73,7 +73,7 @@ module _ (positive negative : List ℕ) (candidates near far : ℕ) where
         near-of = h .near-of;
         far-of = h .far-of;
         same = λ u w m i ne. h .fit u w m i (ap (mem w) z ∙ mem-none w) ne;
-        cross = λ u w m i. h .oppose u w m i (ap (mem w) z ∙ mem-none w);
+        cross = λ u w m i. h .across u w m i (ap (mem w) z ∙ mem-none w);
       }
 
   pub beside-none : Beside positive negative candidates near far (record { near = 0; far = 0; «near_hint» = 0; «far_hint» = 0 })

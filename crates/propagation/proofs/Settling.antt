@@ -7,7 +7,7 @@ use lib.ListN.{getD}
 use Rattle.vertex_set.specs.Sets.{mem, Subset, single, lowest}
 use Rattle.vertex_set.proofs.Membership.{none-in, union-left}
 use Rattle.vertex_set.proofs.LowestVertex.{lowest-lt, rest}
-use Rattle.vertex_set.proofs.Sweeps.{Sweep, sweep-begin, sweep-here, sweep-step}
+use Rattle.vertex_set.proofs.Traversals.{Traversal, traversal-begin, traversal-here, traversal-step}
 use Rattle.signed_graph.specs.declared.SignedGraph.{SignedGraph}
 use Rattle.signed_graph.proofs.Soundness.{Sound, to-sound}
 use Rattle.signed_graph.specs.Thresholds.{Threshold}
@@ -77,7 +77,7 @@ module _ (g : SignedGraph) (so : Sound g) (k : Threshold) (d : Node) (h : Valid 
 module _ (positive negative : List ℕ) (d : Node) (held : ℕ) where
   -- e has those that are not left, as far as they fit
   pub record Settled (left : ℕ) (e : Node) : Type 0 where
-    pub sweep : Sweep held left
+    pub traversal : Traversal held left
     pub fewer : Subset (undecided e) (undecided d)
     pub kept : Subset (d .left .chosen) (e .left .chosen)
     pub stands : Settles positive negative d held e
@@ -85,7 +85,7 @@ module _ (positive negative : List ℕ) (d : Node) (held : ℕ) where
   pub settled-begin : held < 2 ^ 64 → Settled held d
   settled-begin h =
       record {
-        sweep = sweep-begin held h;
+        traversal = traversal-begin held h;
         fewer = λ p m. m;
         kept = λ p m. m;
         stands = λ any so va k some w. same-self _ k d va;
@@ -93,10 +93,10 @@ module _ (positive negative : List ℕ) (d : Node) (held : ℕ) where
 
   module _ {left : ℕ} {e : Node} (h : Settled left e) (pos : 0 < left) (v : ℕ) (is : v ≡ lowest left) where
     small : v < 64
-    small = subst (λ (z : ℕ). z < 64) (sym is) (lowest-lt left pos (h .sweep .fits))
+    small = subst (λ (z : ℕ). z < 64) (sym is) (lowest-lt left pos (h .traversal .fits))
 
     v-held : mem v held ≡ true
-    v-held = ap (λ (z : ℕ). mem z held) is ∙ sweep-here (h .sweep) pos
+    v-held = ap (λ (z : ℕ). mem z held) is ∙ traversal-here (h .traversal) pos
 
     abbrev plus : ℕ
     plus = getD positive v 0
@@ -108,7 +108,7 @@ module _ (positive negative : List ℕ) (d : Node) (held : ℕ) where
     settled-step next is-next =
         subst (Settled (rest left)) (sym is-next)
         (record {
-          sweep = sweep-step (h .sweep) pos;
+          traversal = traversal-step (h .traversal) pos;
           fewer = open-cases (λ f. Subset (undecided f) (undecided d)) e v plus minus
               (λ _ p m. h .fewer p (put-fewer e v plus minus p m)) (h .fewer);
           kept = open-cases (λ f. Subset (d .left .chosen) (f .left .chosen)) e v plus minus

@@ -40,11 +40,11 @@ fn beside_all<'a>(
     while left != 0 {
         let w = vertex_set::lowest(left);
         let partners = positive[w] | vertex_set::single(w);
-        let opposed = negative[w];
+        let negatives = negative[w];
         near_hint = near_hint & (near | partners);
-        far_hint = far_hint & (far | opposed);
+        far_hint = far_hint & (far | negatives);
         near = near & partners;
-        far = far & opposed;
+        far = far & negatives;
         if near_hint | far_hint == 0 {
             return Fitting {
                 near: 0,

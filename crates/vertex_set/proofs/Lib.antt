@@ -8,7 +8,7 @@ pub mod Collections
 pub mod Copies
 pub mod Sizes
 pub mod LowestVertex
-pub mod Sweeps
+pub mod Traversals
 pub mod Gathering
 pub mod Sums
 pub mod Order

@@ -72,7 +72,7 @@ pub fn damaged(rng: &mut Rng, refusal: u64) -> Damage {
             bytes.extend(tail);
         }
         3 => bytes.extend(unknown_command(rng, &tail)),
-        4 => return cut_inside(rng, bytes, &edges),
+        4 => return truncate_inside(rng, bytes, &edges),
         5..=7 => {
             bytes.extend(bad_operands(rng, refusal, &graph, &edges[..kept]));
             bytes.extend(tail);
@@ -131,7 +131,7 @@ fn unknown_command(rng: &mut Rng, tail: &[u8]) -> Vec<u8> {
 }
 
 /// A list that ends inside a command or inside the opening.
-fn cut_inside(rng: &mut Rng, mut bytes: Vec<u8>, edges: &[[u8; 3]]) -> Damage {
+fn truncate_inside(rng: &mut Rng, mut bytes: Vec<u8>, edges: &[[u8; 3]]) -> Damage {
     let mut place = bytes.len();
     if rng.chance(10) {
         bytes.truncate(1);

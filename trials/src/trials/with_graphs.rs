@@ -117,7 +117,7 @@ pub fn reduce(seed: u64, amount: u64) -> Result<Tally, String> {
         let must = expect::reduce(&graph, k, &reduced);
         tally.count_number(must.number);
         if must.number == 0 {
-            tally.count(what_was_cut(&graph_of(&graph), &graph_of(&must.graph)));
+            tally.count(what_was_dropped(&graph_of(&graph), &graph_of(&must.graph)));
         }
         let left = interface::reduce(rng, &graph, k, &reduced);
         same(
@@ -130,7 +130,7 @@ pub fn reduce(seed: u64, amount: u64) -> Result<Tally, String> {
     Ok(tally)
 }
 
-fn what_was_cut(graph: &SignedGraph, reduced: &SignedGraph) -> &'static str {
+fn what_was_dropped(graph: &SignedGraph, reduced: &SignedGraph) -> &'static str {
     if reduced == graph {
         "left whole"
     } else if *reduced == SignedGraph::new(graph.n) {

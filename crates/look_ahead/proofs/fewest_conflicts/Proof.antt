@@ -17,7 +17,7 @@ loop-holds : tie.Need-loop-holds Inv-loop μ-loop
 loop-holds c = narrowing-begin _ _ _ _ _ _ (c .fits .excluded .fits)
 
 small : tie.Need-element-copy-out-conflicts Inv-loop μ-loop
-small c = omega (arith, c .lowest .ensures, lowest-lt _ (search needs) (c .before .before .loop .inv .sweep .fits))
+small c = omega (arith, c .lowest .ensures, lowest-lt _ (search needs) (c .before .before .loop .inv .traversal .fits))
 
 loop-again : tie.Need-loop-again Inv-loop μ-loop
 loop-again c =
@@ -42,6 +42,6 @@ fewest-conflicts-spec =
     (λ c κs. search needs)
     (λ c. search needs)
     (λ c. let x = c .before .before .before .before in
-    omega (arith, size-rest _ (search needs) (x .before .before .loop .inv .sweep .fits)))
+    omega (arith, size-rest _ (search needs) (x .before .before .loop .inv .traversal .fits)))
     loop-again
     (λ c. c .before .loop .inv .from))

@@ -18,12 +18,12 @@ loop-holds : tie.Need-loop-holds Inv-loop μ-loop
 loop-holds c = passing-begin _ _ _ _ _ (c .fits .candidates .fits)
 
 small : tie.Need-element-copy-out-partners Inv-loop μ-loop
-small c = omega (arith, c .lowest .ensures, lowest-lt _ (search needs) (c .before .before .loop .inv .sweep .fits))
+small c = omega (arith, c .lowest .ensures, lowest-lt _ (search needs) (c .before .before .loop .inv .traversal .fits))
 
 loop-less : tie.Need-loop-less Inv-loop μ-loop
 loop-less c =
     let w = c .before .before .before .before in
-    omega (arith, size-rest _ (search needs) (w .before .before .loop .inv .sweep .fits))
+    omega (arith, size-rest _ (search needs) (w .before .before .loop .inv .traversal .fits))
 
 loop-again : tie.Need-loop-again Inv-loop μ-loop
 loop-again c =

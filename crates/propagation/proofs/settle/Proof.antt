@@ -17,7 +17,7 @@ loop-holds : tie.Need-loop-holds Inv-loop μ-loop
 loop-holds c = settled-begin _ _ _ _ (c .fits .held .fits)
 
 small : tie.Need-element-copy-out-put-in-if-open Inv-loop μ-loop
-small c = omega (arith, c .lowest .ensures, lowest-lt _ (search needs) (c .before .before .loop .inv .sweep .fits))
+small c = omega (arith, c .lowest .ensures, lowest-lt _ (search needs) (c .before .before .loop .inv .traversal .fits))
 
 loop-again : tie.Need-loop-again Inv-loop μ-loop
 loop-again c =
@@ -43,6 +43,6 @@ settle-spec =
     (λ c κs. search needs)
     (λ c. search needs)
     (λ c. let u = c .before .before .before in
-    omega (arith, size-rest _ (search needs) (u .before .before .loop .inv .sweep .fits)))
+    omega (arith, size-rest _ (search needs) (u .before .before .loop .inv .traversal .fits)))
     loop-again
     returns)
