@@ -32,7 +32,7 @@ pub fn check_sound(graph: &[u64]) -> u64
     if own != 0 {
         return own;
     }
-    c_words::check_number(signed_graph::check_graph(c_words::graph_at(graph)))
+    signed_graph::check_graph(c_words::graph_at(graph)).number()
 }
 
 // Whether a call on the graph with threshold k is refused.
@@ -43,7 +43,7 @@ pub fn check_call(graph: &[u64], k: u64) -> u64
     if own != 0 {
         return own;
     }
-    c_words::check_number(signed_graph::check_call(c_words::graph_at(graph), k))
+    signed_graph::check_call(c_words::graph_at(graph), k).number()
 }
 
 // Writes the graph of an edge list, and the place of its fault.
@@ -92,5 +92,5 @@ pub fn reduce(graph: &[u64], k: u64, reduced: &mut [u64]) -> u64
     let answer = reduction::reduce(c_words::graph_at(graph), k);
     c_words::put_graph(answer.graph, reduced);
     let outcome = answer.outcome;
-    c_words::check_number(outcome)
+    outcome.number()
 }

@@ -67,5 +67,5 @@ pub fn largest(graph: &[u64], k: u64, answer: &mut [u64]) -> u64
     let words = [found.left, found.right];
     c_words::put_words(&words, answer);
     let outcome = found.outcome;
-    c_words::check_number(outcome)
+    outcome.number()
 }

@@ -3,11 +3,8 @@ use c_words::GRAPH_WORDS;
 use c_words::SHORT_ANSWER;
 use c_words::SHORT_GRAPH;
 use pages::Bookmark;
-use pages::End;
-use pages::Page;
 ghost use mathlib.Core.Path.{_≡_};
 ghost use lib.ListN.{length};
-ghost use Rattle.pages.specs.Answers.{endNumber, markKind, markSet, pageValues};
 ghost use Rattle.group_pages.specs.Records.{recordAt};
 ghost use Rattle.c_pages.specs.Refusals.{pageRefusal};
 ghost use Rattle.c_pages.specs.Answers.{markAt, recordWords, partAt};
@@ -35,35 +32,6 @@ fn page_refusal(graph: usize, answer: usize, kind: u64) -> u64
     0
 }
 
-fn end_number(end: End) -> u64
-    ensures { λ r. ⌜ r ≡ endNumber end ⌝ }
-{
-    match end {
-        End::Finished => 0,
-        End::More => 1,
-    }
-}
-
-// The kind of a bookmark.
-fn mark_kind(mark: Bookmark) -> u64
-    ensures { λ r. ⌜ r ≡ markKind mark ⌝ }
-{
-    match mark {
-        Bookmark::Start => 0,
-        Bookmark::After(_) => 1,
-    }
-}
-
-// The set of a bookmark; empty at the start.
-fn mark_set(mark: Bookmark) -> u64
-    ensures { λ r. ⌜ r ≡ markSet mark ⌝ }
-{
-    match mark {
-        Bookmark::Start => 0,
-        Bookmark::After(s) => s,
-    }
-}
-
 // The bookmark of this kind.
 fn mark_at(kind: u64, set: u64) -> Bookmark
     ensures { λ r. ⌜ r ≡ markAt kind set ⌝ }
@@ -72,17 +40,6 @@ fn mark_at(kind: u64, set: u64) -> Bookmark
         return Bookmark::Start;
     }
     Bookmark::After(set)
-}
-
-fn page_values(page: Page) -> [u64; 4]
-    ensures { λ r. ⌜ r ≡ pageValues page ⌝ }
-{
-    let end = page.end;
-    let next = page.next;
-    let last = end_number(end);
-    let kind = mark_kind(next);
-    let set = mark_set(next);
-    [page.count as u64, last, kind, set]
 }
 
 // Where record i of a listing stands: its first byte and its length.
@@ -115,10 +72,10 @@ pub fn list_page(
         return own;
     }
     let page = listing::list_page(c_words::graph_at(graph), k, mark_at(kind, set), out);
-    let words = page_values(page);
+    let words = pages::page_values(page);
     c_words::put_words(&words, answer);
     let outcome = page.outcome;
-    c_words::check_number(outcome)
+    outcome.number()
 }
 
 // Writes where record i of a listing stands.

@@ -1,11 +1,9 @@
 // A graph as words of an array, and the refusals of arrays that are too short.
-use signed_graph::Check;
 use signed_graph::SignedGraph;
 ghost use mathlib.Core.Path.{_≡_};
 ghost use Prim.Native.Nat.{_≤_};
 ghost use lib.ListN.{length};
 ghost use Rattle.vertex_set.specs.Buffers.{overwritten};
-ghost use Rattle.signed_graph.specs.Calls.{checkNumber};
 ghost use Rattle.c_words.specs.Graphs.{graphWords, wordsOf, graphAt};
 ghost use Rattle.c_words.specs.Refusals.{graphRefusal, answerRefusal, ownRefusal};
 
@@ -50,16 +48,6 @@ pub fn own_refusal(graph: usize, answer: usize, needed: usize) -> u64
         return SHORT_GRAPH;
     }
     answer_refusal(answer, needed)
-}
-
-// The number of a refusal of a call; 0 where there is none.
-pub fn check_number(check: Check) -> u64
-    ensures { λ r. ⌜ r ≡ checkNumber check ⌝ }
-{
-    match check {
-        Check::Accepted => 0,
-        Check::Refused(why) => why.number(),
-    }
 }
 
 // Writes words to the front of an array.

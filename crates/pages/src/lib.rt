@@ -2,6 +2,7 @@
 use signed_graph::Check;
 ghost use mathlib.Core.Path.{_≡_};
 ghost use mathlib.Core.Bool.{true};
+ghost use Rattle.pages.specs.Answers.{endNumber, markKind, markSet, pageValues};
 ghost use Rattle.pages.specs.Pages.{dueAt};
 ghost use Rattle.pages.specs.Filling.{Past, markAfter, endAt, pageAt};
 
@@ -88,4 +89,45 @@ pub fn is_past(from: Bookmark, chosen: u64, v: usize) -> bool
             vertex_set::contains(chosen, vertex_set::lowest(differing))
         }
     }
+}
+
+fn end_number(end: End) -> u64
+    ensures { λ r. ⌜ r ≡ endNumber end ⌝ }
+{
+    match end {
+        End::Finished => 0,
+        End::More => 1,
+    }
+}
+
+// The kind of a bookmark.
+fn mark_kind(mark: Bookmark) -> u64
+    ensures { λ r. ⌜ r ≡ markKind mark ⌝ }
+{
+    match mark {
+        Bookmark::Start => 0,
+        Bookmark::After(_) => 1,
+    }
+}
+
+// The set of a bookmark; empty at the start.
+fn mark_set(mark: Bookmark) -> u64
+    ensures { λ r. ⌜ r ≡ markSet mark ⌝ }
+{
+    match mark {
+        Bookmark::Start => 0,
+        Bookmark::After(s) => s,
+    }
+}
+
+// The answer of a page as numbers: its count, finished or more, and the kind and the set of its next bookmark.
+pub fn page_values(page: Page) -> [u64; 4]
+    ensures { λ r. ⌜ r ≡ pageValues page ⌝ }
+{
+    let end = page.end;
+    let next = page.next;
+    let last = end_number(end);
+    let kind = mark_kind(next);
+    let set = mark_set(next);
+    [page.count as u64, last, kind, set]
 }

@@ -11,14 +11,7 @@ use signed_graph::SignedGraph;
 
 // Prints whether a call was refused.
 pub fn print_check(outcome: Check) {
-    match outcome {
-        Check::Accepted => {
-            print_outcome(0);
-        }
-        Check::Refused(why) => {
-            print_outcome(why.number());
-        }
-    }
+    print_outcome(outcome.number());
 }
 
 // Reduces a graph, and returns the reduced graph.

@@ -10,37 +10,15 @@ use crate::printing::print_numbers;
 use crate::printing::print_outcome;
 use crate::printing::within;
 use pages::Bookmark;
-use pages::End;
 use pages::Page;
 use signed_graph::SignedGraph;
 
-// 0 where no group is due behind a page.
-fn end_number(end: End) -> u64 {
-    match end {
-        End::Finished => 0,
-        End::More => 1,
-    }
-}
-
-// Prints 0 for the start, or 1 and the set.
-fn print_bookmark(mark: Bookmark) {
-    match mark {
-        Bookmark::Start => {
-            print_numbers(0, 0);
-        }
-        Bookmark::After(set) => {
-            print_numbers(1, set);
-        }
-    }
-}
-
 fn print_page(page: Page) {
     let outcome = page.outcome;
-    let next = page.next;
-    let end = page.end;
     print_check(outcome);
-    print_numbers(page.count as u64, end_number(end));
-    print_bookmark(next);
+    let values = pages::page_values(page);
+    print_numbers(values[0], values[1]);
+    print_numbers(values[2], values[3]);
 }
 
 // Lists a page into a buffer of so many bytes.

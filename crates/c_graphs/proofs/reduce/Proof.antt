@@ -42,7 +42,7 @@ returns-2 c =
     let o = i .before in
     let a = o .before .before .before .before .args in
     rw (passes (own (o .graph-refusal .ensures) (o .before .shorter .ensures)) (i .if1 .left)) (
-      c .check-number .ensures ∙ r .reduce .ensures .1 .0 ∙ rw (g .graph-at .ensures),
+      c .number .ensures ∙ r .reduce .ensures .1 .0 ∙ rw (g .graph-at .ensures),
       written-as (a .reduced .now)
           (ap (λ (x : Reduced). x .graph) (r .reduce .ensures .0) ∙ ap (λ (x : SignedGraph). reduced x (a .k) .graph) (g .graph-at .ensures))
           (w .put-graph .ensures),

@@ -24,7 +24,7 @@ returns-2 c =
     let g = l .before in
     let i = g .before in
     rw (passes (i .before .own-refusal .ensures) (i .if1 .left), ← g .graph-at .ensures)
-    (c .check-number .ensures ∙ l .largest .ensures .1, w .put-words .ensures ∙ rw (l .largest .ensures .0))
+    (c .number .ensures ∙ l .largest .ensures .1, w .put-words .ensures ∙ rw (l .largest .ensures .0))
 
 pub largest-spec : {M : Type 1} → statement M
 largest-spec =

@@ -32,7 +32,7 @@ returns-2 c =
     let i = g .before in
     let page = l .list-page .ensures in
     rw (passes (i .before .page-refusal .ensures) (i .if1 .left), ← g .graph-at .ensures, ← m .mark-at .ensures)
-    (c .check-number .ensures ∙ page .1 .1 .0, (page .1 .0, w .put-words .ensures ∙ rw (p .page-values .ensures ∙ page .1 .1 .1)))
+    (c .number .ensures ∙ page .1 .1 .0, (page .1 .0, w .put-words .ensures ∙ rw (p .page-values .ensures ∙ page .1 .1 .1)))
 
 pub list-page-spec : {M : Type 1} → statement M
 list-page-spec =

@@ -1,11 +1,11 @@
 -- `output::due_for` meets its contract. The first byte is the threshold, and the part behind it the list. Assumes nothing.
-use Prim.Native.Nat.{ℕ, _-_}
+use Prim.Native.Nat.{ℕ}
 use native.Mathlib.Omega.{arith}
 use mathlib.Core.Path.{_≡_, refl, _∙_}
 use mathlib.Core.List.{List, [], _∷_}
 use borrow.Author.Needs.{needs}
-use lib.ListN.{length, take, drop, getD, length-drop}
-use lib.Seq.{take-all}
+use lib.ListN.{length, getD}
+use Rattle.vertex_set.proofs.Buffers.{partFrom, part-from}
 use Rattle.edge_list.specs.Decoding.{decoded}
 use Rattle.output.specs.Output.{dueOf, dueFor}
 use Rattle.output.proofs.due_for.Statement.{statement}
@@ -15,8 +15,8 @@ of-nothing : (input : List ℕ) → length input ≡ 0 → dueOf (decoded input)
 of-nothing [] h = refl
 of-nothing (k ∷ list) h = absurd (omega (arith, h))
 
-behind-first : (input : List ℕ) → dueOf (decoded (take (length input - 1) (drop 1 input))) (getD input 0 0) ≡ dueFor input
-behind-first input = rw (take-all (length input - 1) (drop 1 input) (omega (arith, length-drop 1 input)))
+behind-first : (input : List ℕ) → dueOf (decoded (partFrom input 1)) (getD input 0 0) ≡ dueFor input
+behind-first input = rw (part-from input 1)
 
 pub due-for-spec : {M : Type 1} → statement M
 due-for-spec =
