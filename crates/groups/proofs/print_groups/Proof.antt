@@ -17,7 +17,7 @@ use Rattle.clique.specs.Listing.{listing}
 use Rattle.pages.specs.Pages.{due}
 use Rattle.group_pages.specs.Calls.{dueGroups, pageOf}
 use Rattle.group_pages.proofs.Counts.{listing-few, page-rest, page-last, fewer-due}
-use Rattle.groups.specs.Sizes.{pageRoom}
+use Rattle.output_text.specs.PageTexts.{pageRoom}
 use Rattle.groups.proofs.print_groups.Statement.{statement}
 use Rattle.groups.proofs.print_groups.Tie as tie
 
@@ -47,35 +47,36 @@ loop-holds c = omega arith
 
 add-count : tie.Need-add-count Inv-loop μ-loop
 add-count c =
-    let b = c .before .before in
-    let l = c .before .loop in
-    let p = c .print-page in
+    let l = c .before .before .before .before .loop in
+    let b = c .before .before .before .before .before in
+    let p = c .before .before .before .print-page in
     omega (
       arith,
       l .inv,
-      rest (b .args .g) (b .args .k) (l .from) (p .result) (p .ensures),
+      rest (b .args .g) (b .args .k) (l .from) (p .result .page) (p .ensures),
       listing-few (b .args .g) (to-sound (b .args .g) (accepted-sound (b .args .g) (b .args .k) (b .pre))) (b .args .k),
     )
 
-returns : tie.Need-returns Inv-loop μ-loop
-returns c =
-    let a = c .before .before .before .before .args in
-    let l = c .before .before .before .loop in
-    let p = c .before .before .print-page in
-    omega (arith, l .inv, last (a .g) (a .k) (l .from) (p .result) (p .ensures) (c .enum-told2 .given .1))
+printed : tie.Need-returns-2 Inv-loop μ-loop
+printed c =
+    let p = c .before .before .before .before .before in
+    let a = p .before .before .args in
+    let l = p .before .loop in
+    omega (arith, l .inv, last (a .g) (a .k) (l .from) (p .print-page .result .page) (p .print-page .ensures) (c .enum-told2 .given .1))
 
 loop-less : tie.Need-loop-less Inv-loop μ-loop
 loop-less c =
-    let b = c .before .before .before .before in
-    let p = c .before .before .print-page in
-    fewer (b .args .g) (b .args .k) (c .before .before .before .loop .from) (p .result) (p .ensures) (b .pre) (c .enum-told .given .1)
+    let p = c .before .before .before .before .before in
+    let b = p .before .before in
+    fewer (b .args .g) (b .args .k) (p .before .loop .from) (p .print-page .result .page) (p .print-page .ensures) (b .pre)
+    (c .enum-told .given .1)
 
 loop-again : tie.Need-loop-again Inv-loop μ-loop
 loop-again c =
-    let a = c .before .before .before .before .args in
-    let l = c .before .before .before .loop in
-    let p = c .before .before .print-page in
-    omega (arith, l .inv, rest (a .g) (a .k) (l .from) (p .result) (p .ensures))
+    let p = c .before .before .before .before .before in
+    let a = p .before .before .args in
+    let l = p .before .loop in
+    omega (arith, l .inv, rest (a .g) (a .k) (l .from) (p .print-page .result .page) (p .print-page .ensures))
 
 pub print-groups-spec : {M : Type 1} → statement M
 print-groups-spec =
@@ -85,9 +86,10 @@ print-groups-spec =
     μ-loop
     loop-holds
     (λ c κs. search needs)
+    (λ c. tt)
     add-count
     (λ c. search needs)
     (λ c. search needs)
-    returns
+    printed
     loop-less
     loop-again)

@@ -1,4 +1,4 @@
--- `groups::put_records` meets its contract. The lines of the records from i on are to come, and each has room. Assumes nothing.
+-- `output_text::put_records` meets its contract. The lines of the records from i on are to come, and each has room. Assumes nothing.
 use Prim.Native.Nat.{ℕ, _-_, _*_, _/_, _≤_}
 use native.Mathlib.Omega.{arith}
 use mathlib.Core.Path.{_≡_, ap}
@@ -9,11 +9,11 @@ use Rattle.vertex_set.proofs.Ranges.{gather-end}
 use Rattle.vertex_set.proofs.Buffers.{Laid, laid-start, laid-as, laid-room, laid-long, laid-piece, laid-length, laid-end}
 use Rattle.report.specs.Lines.{lineText, longestLine}
 use Rattle.report.proofs.Words.{line-short}
-use Rattle.groups.specs.Records.{recordsText}
+use Rattle.output_text.specs.Records.{recordsText}
 use Rattle.group_pages.specs.Records.{recordWidth}
-use Rattle.groups.proofs.Texts.{lineAt, record-long, records-short, line-next}
-use Rattle.groups.proofs.put_records.Statement.{statement}
-use Rattle.groups.proofs.put_records.Tie as tie
+use Rattle.output_text.proofs.Texts.{lineAt, record-long, records-short, line-next}
+use Rattle.output_text.proofs.put_records.Statement.{statement}
+use Rattle.output_text.proofs.put_records.Tie as tie
 
 abbrev Inv-loop : tie.InvT-loop
 Inv-loop records text₀ count i₀ at₀ text i at =

@@ -1,4 +1,4 @@
--- `groups::put_closing` meets its contract. One line, or the first and behind it the second. Assumes nothing.
+-- `output_text::put_lines` meets its contract. One line, or the first and behind it the second. Assumes nothing.
 use Prim.Native.Nat.{ℕ, _-_, _*_, _≤_}
 use native.Mathlib.Omega.{arith}
 use mathlib.Core.Path.{_≡_, sym, ap, _∙_}
@@ -11,8 +11,8 @@ use Rattle.report.specs.declared.Line.{Line}
 use Rattle.report.specs.Lines.{lineText, longestLine}
 use Rattle.report.proofs.Words.{line-short}
 use Rattle.output.specs.Output.{closingText}
-use Rattle.groups.proofs.put_closing.Statement.{statement}
-use Rattle.groups.proofs.put_closing.Tie as tie
+use Rattle.output_text.proofs.put_lines.Statement.{statement}
+use Rattle.output_text.proofs.put_lines.Tie as tie
 
 -- the first line is written
 module _ (x y : Line) (before out : List ℕ) (k : ℕ) (room : longestLine * 2 ≤ length before) (e : k ≡ length (lineText x))
@@ -75,8 +75,8 @@ two c =
     let e = sym (ap closingText (o .1)) in
     (laid-length l ∙ ap length e, laid-end l ∙ ap (λ (s : List ℕ). overwritten s t) e)
 
-pub put-closing-spec : {M : Type 1} → statement M
-put-closing-spec =
+pub put-lines-spec : {M : Type 1} → statement M
+put-lines-spec =
     tie.close
     (tie.spec
     (λ c. search needs)

@@ -13,7 +13,7 @@ use Rattle.words.specs.Words.{wordBytes}
 use Rattle.words.proofs.Words.{value-bytes}
 use Rattle.signed_graph.specs.declared.SignedGraph.{SignedGraph}
 use Rattle.signed_graph.specs.declared.Check.{Check}
-use Rattle.signed_graph.specs.declared.Check.the-variants.{Accepted}
+use Rattle.signed_graph.specs.declared.Check.the-variants.{Accepted, Refused}
 use Rattle.signed_graph.specs.Calls.{checkOf}
 use Rattle.signed_graph.proofs.Soundness.{to-sound}
 use Rattle.signed_graph.proofs.Calls.{accepted-sound}
@@ -31,8 +31,8 @@ use Rattle.report.specs.declared.Line.the-variants.{Group}
 use Rattle.report.specs.Lines.{groupLine, lineText, longestLine}
 use Rattle.report.proofs.Words.{gather-short, line-short}
 use Rattle.output.specs.Output.{groupsText}
-use Rattle.groups.specs.Records.{lineOfRecord, recordsText}
-use Rattle.groups.specs.Sizes.{pageRecords, pageRoom}
+use Rattle.output_text.specs.Records.{lineOfRecord, recordsText}
+use Rattle.output_text.specs.PageTexts.{pageRecords, pageRoom, textBy, pageText}
 
 -- what is written as a record reads back as the line of its sides
 record-reads : (l r : ℕ) → l < 2 ^ 64 → r < 2 ^ 64 → lineOfRecord (sidesRecord l r) ≡ Group l r
@@ -113,15 +113,24 @@ all-take P (suc n) (x ∷ l) h = (h .0, all-take P n l (h .1))
 
 -- ---- pages
 
-module _ (g : SignedGraph) (k : ℕ) (m : Bookmark) (buffer : List ℕ) (long : length buffer ≡ pageRoom) (a : checkOf g k ≡ Accepted) where
-  page-records : take (recordWidth * pageOf g k m pageRoom .count) (pageBytes g k m buffer) ≡ records recordOf (take pageRecords (dueGroups g k m))
-  page-records =
-      let ds : List Item = dueGroups g k m in
-      let p = paged itemSet recordOf recordWidth (listing g k) record-wide (listing-sorted g (to-sound g (accepted-sound g k a)) k) m buffer in
-      subst (λ (c : Check). take (recordWidth * pageBy itemSet recordWidth c m pageRoom ds .count) (bytesBy recordOf recordWidth c ds buffer) ≡ records recordOf (take pageRecords ds)) (sym a)
-      (subst (λ (n : ℕ). take (recordWidth * pageBy itemSet recordWidth Accepted m n ds .count) (bytesBy recordOf recordWidth Accepted ds buffer) ≡ records recordOf (take (n / recordWidth) ds))
-      long (p .wrote))
+module _ (g : SignedGraph) (k : ℕ) (m : Bookmark) (buffer : List ℕ) (long : length buffer ≡ pageRoom) where
+  -- the records of a page, by the check of the call
+  abbrev recordsBy : Check → List ℕ
+  recordsBy c =
+      take (recordWidth * pageBy itemSet recordWidth c m pageRoom (dueGroups g k m) .count) (bytesBy recordOf recordWidth c (dueGroups g k m) buffer)
 
-  pub page-text : recordsText (take (recordWidth * pageOf g k m pageRoom .count) (pageBytes g k m buffer)) ≡ groupsText (take pageRecords (dueGroups g k m))
-  page-text =
-      ap recordsText page-records ∙ records-groups (take pageRecords (dueGroups g k m)) (all-take Narrow pageRecords (dueGroups g k m) (due-sides g k m))
+  accepted-records : checkOf g k ≡ Accepted → recordsBy Accepted ≡ records recordOf (take pageRecords (dueGroups g k m))
+  accepted-records a =
+      let p = paged itemSet recordOf recordWidth (listing g k) record-wide (listing-sorted g (to-sound g (accepted-sound g k a)) k) m buffer in
+      subst (λ (n : ℕ). take (recordWidth * pageBy itemSet recordWidth Accepted m n (dueGroups g k m) .count) (bytesBy recordOf recordWidth Accepted (dueGroups g k m) buffer)
+      ≡ records recordOf (take (n / recordWidth) (dueGroups g k m))) long (p .wrote)
+
+  text-by : (c : Check) → checkOf g k ≡ c → recordsText (recordsBy c) ≡ textBy c (dueGroups g k m)
+  unfolding recordsText gather
+  text-by Accepted a =
+      ap recordsText (accepted-records a)
+      ∙ records-groups (take pageRecords (dueGroups g k m)) (all-take Narrow pageRecords (dueGroups g k m) (due-sides g k m))
+  text-by (Refused why) r = refl
+
+  pub page-text : recordsText (take (recordWidth * pageOf g k m pageRoom .count) (pageBytes g k m buffer)) ≡ pageText g k m
+  page-text = text-by (checkOf g k) refl

@@ -1,4 +1,4 @@
--- `groups::put_page` meets its contract. The records are within the array, and their lines are the groups'. Assumes nothing.
+-- `output_text::put_page` meets its contract. The records are within the array, and their lines are the groups'. Assumes nothing.
 use Prim.Native.Nat.{ℕ, _*_, _≤_}
 use native.Mathlib.Omega.{arith}
 use mathlib.Core.Path.{_≡_, refl, sym, ap, ap₂, _∙_, subst}
@@ -6,18 +6,18 @@ use mathlib.Core.List.{List}
 use borrow.Author.Needs.{needs}
 use lib.ListN.{length, take, replicate, length-take}
 use lib.Seq.{length-take-le}
-use Rattle.vertex_set.proofs.Buffers.{front-is}
+use Rattle.vertex_set.specs.Buffers.{overwritten}
 use Rattle.signed_graph.specs.declared.SignedGraph.{SignedGraph}
 use Rattle.pages.specs.declared.Bookmark.{Bookmark}
 use Rattle.pages.specs.declared.Page.{Page}
 use Rattle.group_pages.specs.Calls.{pageOf}
 use Rattle.group_pages.proofs.Counts.{page-fits}
-use Rattle.groups.specs.Records.{recordsText}
+use Rattle.output_text.specs.Records.{recordsText}
 use Rattle.group_pages.specs.Records.{recordWidth}
-use Rattle.groups.specs.Sizes.{pageRoom}
-use Rattle.groups.proofs.Texts.{page-text}
-use Rattle.groups.proofs.put_page.Statement.{statement}
-use Rattle.groups.proofs.put_page.Tie as tie
+use Rattle.output_text.specs.PageTexts.{pageRoom}
+use Rattle.output_text.proofs.Texts.{page-text}
+use Rattle.output_text.proofs.put_page.Statement.{statement}
+use Rattle.output_text.proofs.put_page.Tie as tie
 
 fits : (g : SignedGraph) (k : ℕ) (from : Bookmark) (page : Page) → page ≡ pageOf g k from pageRoom → recordWidth * page .count ≤ pageRoom
 fits g k from page e = subst (λ (p : Page). recordWidth * p .count ≤ pageRoom) (sym e) (page-fits g k from pageRoom)
@@ -55,13 +55,14 @@ space = replicate pageRoom 0
 
 returns : tie.Need-returns
 returns c =
-    let b = c .before .before .before .before .before .before .before in
-    let a = b .args in
+    let a = c .before .before .before .before .before .before .before .args in
     let p = c .before .before .before .before .before .list-page in
     let r = c .put-records in
     let e = ap₂ (λ (x : Page) (s : List ℕ). recordsText (take (recordWidth * x .count) s)) (p .ensures .0) (p .ensures .1 .0)
-    ∙ page-text (a .g) (a .k) (a .from) space refl (b .pre) in
-    (p .ensures .0, (r .ensures .0 ∙ ap length e, front-is (recordsText _) _ _ (r .result) (r .ensures .0) (r .ensures .1) ∙ e))
+    ∙ page-text (a .g) (a .k) (a .from) space refl in (
+      p .ensures .0,
+      (r .ensures .0 ∙ ap length e, r .ensures .1 ∙ ap (λ (t : List ℕ). overwritten t (a .text .now)) e),
+    )
 
 pub put-page-spec : {M : Type 1} → statement M
 put-page-spec =

@@ -2,7 +2,7 @@
 -- Assumes nothing.
 use Prim.Native.Nat.{ℕ, zero, suc, _<_}
 use native.Mathlib.Omega.{arith}
-use mathlib.Core.Path.{_≡_, refl, sym, ap, _∙_, subst}
+use mathlib.Core.Path.{_≡_, refl, sym, ap, ap₂, _∙_, subst}
 use mathlib.Core.List.{List, [], _∷_, _++_, append-assoc, append-nil}
 use lib.ListN.{length, take, drop, take-append-drop}
 use lib.Seq.{take-all}
@@ -28,7 +28,7 @@ use Rattle.output.specs.declared.Answer.{Answer}
 use Rattle.output.specs.declared.Answer.the-variants.{Groups}
 use Rattle.output.specs.Output.{dueFor, groupsText, listingText, closingText, closingFor, printed}
 use Rattle.output.proofs.Printed.{due-checked}
-use Rattle.groups.specs.Sizes.{pageRecords, pageRoom}
+use Rattle.output_text.specs.PageTexts.{pageRecords, pageRoom, textBy, pageText}
 
 groups-append : (a b : List Item) → groupsText (a ++ b) ≡ groupsText a ++ groupsText b
 unfolding groupsText
@@ -47,7 +47,7 @@ module _ (g : SignedGraph) (k : ℕ) where
   unfoldable pub pagesText : ℕ → Bookmark → List ℕ
   pagesText zero m = []
   pagesText (suc n) m =
-      groupsText (take pageRecords (dueGroups g k m)) ++ following (pageOf g k m pageRoom .end) (pagesText n (pageOf g k m pageRoom .next))
+      pageText g k m ++ following (pageOf g k m pageRoom .end) (pagesText n (pageOf g k m pageRoom .next))
 
   module _ (a : checkOf g k ≡ Accepted) where
     next-due : (m : Bookmark) → dueGroups g k (pageOf g k m pageRoom .next) ≡ drop pageRecords (dueGroups g k m)
@@ -67,15 +67,17 @@ module _ (g : SignedGraph) (k : ℕ) where
         rest : List Item
         rest = dueGroups g k (pageOf g k m pageRoom .next)
 
+        text : pageText g k m ≡ groupsText (take pageRecords ds)
+        text = ap (λ (c : Check). textBy c ds) a
+
         go : (e : End) → pageOf g k m pageRoom .end ≡ e
             → (length rest < n → pagesText n (pageOf g k m pageRoom .next) ≡ groupsText rest)
-            → groupsText (take pageRecords ds) ++ following e (pagesText n (pageOf g k m pageRoom .next)) ≡ groupsText ds
+            → pageText g k m ++ following e (pagesText n (pageOf g k m pageRoom .next)) ≡ groupsText ds
         go Finished e ih =
-            append-nil (groupsText (take pageRecords ds))
+            append-nil (pageText g k m) ∙ text
             ∙ ap groupsText (take-all pageRecords ds (omega (arith, page-last g k m pageRoom e, page-fits g k m pageRoom)))
         go More e ih =
-            ap (λ (t : List ℕ). groupsText (take pageRecords ds) ++ t)
-            (ih (omega (arith, fewer-due g k m pageRoom (omega arith) a e)) ∙ ap groupsText (next-due m))
+            ap₂ (λ (s t : List ℕ). s ++ t) text (ih (omega (arith, fewer-due g k m pageRoom (omega arith) a e)) ∙ ap groupsText (next-due m))
             ∙ sym (groups-append (take pageRecords ds) (drop pageRecords ds))
             ∙ ap groupsText (take-append-drop pageRecords ds)
 
