@@ -1,20 +1,48 @@
 /*
  * Mastpickle: the balanced groups of a signed graph, for C and C++.
  *
- * Link with target/staticlib/libmastpickle.a, which `make lib` builds (x86-64 Linux). Every function here is proved to meet
- * its contract, which stands at the function in crates/mastpickle/src/lib.rt.
+ * Link with target/staticlib/libmastpickle.a, which `make lib` builds (x86-64 Linux). Every
+ * function here is proved to meet its contract, which stands at the function in
+ * crates/mastpickle/src/lib.rt.
  *
- * Numbers are 64 bits wide. A set of vertices is a number with bit p for vertex p. A graph is an array of
- * MASTPICKLE_GRAPH_WORDS words: n, then for each of 64 vertices the set of its positive partners, then for each the set of
- * its negative partners. An array may be longer than a call needs: the words behind are neither read nor written.
+ * Numbers are 64 bits wide. A set of vertices is a number with bit p for vertex p. A graph is an
+ * array of MASTPICKLE_GRAPH_WORDS words: n, then for each of 64 vertices the set of its positive
+ * partners, then for each the set of its negative partners. An array may be longer than a call
+ * needs: the words behind are neither read nor written.
  *
- * Every function returns 0 or the number of a refusal. Refusals 1 to 13 are those of the calls; each function says which it
- * has and what it then writes. The numbers from 101 up are this interface's own, are looked at first and in their order, and
- * change nothing in any array.
+ * Every function returns 0 or the number of a refusal. Refusals 1 to 13 are those of the calls;
+ * each function says which it has and what it then writes. The numbers from 101 up are this
+ * interface's own, are looked at first and in their order, and change nothing in any array.
  *
- * What a caller owes: a pointer is not null, also where its length is 0, is aligned for its type, and has as many elements
- * behind it as the length beside it says; and an array that a call may write shares no element with another array of that
- * call. Lengths count elements. No function keeps a pointer, allocates or has a state, so calls may run at the same time.
+ * What a caller owes: a pointer is not null, also where its length is 0, is aligned for its type,
+ * and has as many elements behind it as the length beside it says; and an array that a call may
+ * write shares no element with another array of that call. Lengths count elements.
+ *
+ * What a call uses: its arguments, the arrays behind them and the stack. No function keeps a
+ * pointer, uses the heap or has a state, so calls may run at the same time in any threads. The
+ * library calls memcpy and memset, which the linker has to supply, and nothing else. A call takes
+ * at most so many bytes of stack, its return address among them:
+ *
+ *     mastpickle_new             256
+ *     mastpickle_check_sound   5,120
+ *     mastpickle_check_call    5,120
+ *     mastpickle_decode        3,072
+ *     mastpickle_encode        8,192
+ *     mastpickle_classify     10,240
+ *     mastpickle_reduce       11,264
+ *     mastpickle_list_page    40,960
+ *     mastpickle_largest      30,720
+ *     mastpickle_record_at       256
+ *
+ * Each is at least a quarter above what the machine code can take, and `make trials` measures
+ * calls against it. The frames of the caller and of signal handlers are the caller's to add, and
+ * so is what memcpy and memset take: nothing was measured for those of the GNU C library, but a
+ * dynamic linker that binds them when they are first called took 1,552 bytes then on one machine,
+ * and may take more on another.
+ *
+ * How long a call takes is not promised; bench/RESULTS.md has what was measured. Only small pages
+ * bound the time of a call, and they do not bound it for sure: mastpickle_list_page ends when its
+ * buffer is full, but where groups are rare it may search long for the next one.
  */
 #ifndef MASTPICKLE_H
 #define MASTPICKLE_H
@@ -26,10 +54,15 @@
 extern "C" {
 #endif
 
-/* The words of a graph, the bytes of a record, the longest edge list that mastpickle_encode writes. */
+/* The version of the library and of the program `groups`. */
+#define MASTPICKLE_VERSION "1.0.0"
+
+/* The words of a graph, the bytes of a record, the longest edge list that mastpickle_encode writes,
+   and a stack that is enough for every call. */
 #define MASTPICKLE_GRAPH_WORDS 129
 #define MASTPICKLE_RECORD_BYTES 16
 #define MASTPICKLE_LONGEST_EDGE_LIST 6051
+#define MASTPICKLE_STACK_BYTES 40960
 
 /* Refusals of an edge list, by mastpickle_decode. */
 #define MASTPICKLE_NO_OPENING 1
@@ -48,8 +81,9 @@ extern "C" {
 #define MASTPICKLE_NO_GROUP 12
 #define MASTPICKLE_BUFFER_TOO_SHORT 13
 
-/* Refusals of this interface: an array for a graph has fewer than MASTPICKLE_GRAPH_WORDS words; the array for the answer has
-   fewer words than the function says; a bookmark's kind is none of the two below. */
+/* Refusals of this interface: an array for a graph has fewer than MASTPICKLE_GRAPH_WORDS words; the
+   array for the answer has fewer words than the function says; a bookmark's kind is none of the two
+   below. */
 #define MASTPICKLE_SHORT_GRAPH 101
 #define MASTPICKLE_SHORT_ANSWER 102
 #define MASTPICKLE_NO_BOOKMARK 103
@@ -67,8 +101,8 @@ extern "C" {
 #define MASTPICKLE_EMPTY 1               /* the set has no vertex */
 #define MASTPICKLE_VERTEX_OUT_OF_RANGE 2 /* its lowest vertex that the graph does not have */
 #define MASTPICKLE_MISSING_EDGE 3        /* its first two vertices with no edge */
-#define MASTPICKLE_UNBALANCED 4          /* its first three vertices with one or three negative edges */
-#define MASTPICKLE_TOO_SMALL 5           /* the sizes of its left and its right side, one of which is under k */
+#define MASTPICKLE_UNBALANCED 4          /* its first three vertices with 1 or 3 negative edges */
+#define MASTPICKLE_TOO_SMALL 5           /* the sizes of its sides, left first; one is under k */
 #define MASTPICKLE_EXTENSIBLE 6          /* the lowest vertex whose addition keeps it balanced */
 #define MASTPICKLE_GROUP 7               /* its left and its right side */
 
@@ -79,8 +113,8 @@ extern "C" {
 uint64_t mastpickle_new(uint64_t n, uint64_t *graph, size_t graph_words);
 
 /*
- * Whether the graph is sound: n is at most 64, no vertex is its own partner, no partner is both positive and negative,
- * partnership is mutual, and vertices from n up have no part in it.
+ * Whether the graph is sound: n is at most 64, no vertex is its own partner, no partner is both
+ * positive and negative, partnership is mutual, and vertices from n up have no part in it.
  * Returns 0 where it is sound and 10 where it is not, or 101.
  */
 uint64_t mastpickle_check_sound(const uint64_t *graph, size_t graph_words);
@@ -93,60 +127,69 @@ uint64_t mastpickle_check_call(const uint64_t *graph, size_t graph_words, uint64
 
 /*
  * Reads an edge list. Writes its graph, and into answer[0] 0.
- * Returns 0; or 1 to 9 where the list is refused, and then writes the graph of no vertices and into answer[0] the place of
- * the fault; or 101, 102 (one word).
+ * Returns 0; or 1 to 9 where the list is refused, and then writes the graph of no vertices and into
+ * answer[0] the place of the fault; or 101, 102 (one word).
  */
-uint64_t mastpickle_decode(const uint8_t *bytes, size_t length, uint64_t *graph, size_t graph_words, uint64_t *answer,
-                           size_t answer_words);
+uint64_t mastpickle_decode(const uint8_t *bytes, size_t length, uint64_t *graph, size_t graph_words,
+                           uint64_t *answer, size_t answer_words);
 
 /*
- * Writes the edge list of a graph in canonical form, lower vertex first and edges ascending, and into answer[0] its length.
- * The bytes of `out` behind it stay.
- * Returns 0; or 10, or 13 where `out` is shorter than the list, and then writes 0 into answer[0] and no byte of `out`; or
- * 101, 102 (one word).
+ * Writes the edge list of a graph in canonical form, lower vertex first and edges ascending, and
+ * into answer[0] its length. The bytes of `out` behind it stay.
+ * Returns 0; or 10, or 13 where `out` is shorter than the list, and then writes 0 into answer[0]
+ * and no byte of `out`; or 101, 102 (one word).
  */
-uint64_t mastpickle_encode(const uint64_t *graph, size_t graph_words, uint8_t *out, size_t out_bytes, uint64_t *answer,
-                           size_t answer_words);
+uint64_t mastpickle_encode(const uint64_t *graph, size_t graph_words, uint8_t *out,
+                           size_t out_bytes, uint64_t *answer, size_t answer_words);
 
 /*
- * Says what a set is in the graph at threshold k. Writes the verdict into answer[0] and its data into answer[1] to
- * answer[3].
+ * Says what a set is in the graph at threshold k. Writes the verdict into answer[0] and its data
+ * into answer[1] to answer[3].
  * Returns 0; or 10, 11, and then writes MASTPICKLE_NO_VERDICT and zeros; or 101, 102 (four words).
  */
-uint64_t mastpickle_classify(const uint64_t *graph, size_t graph_words, uint64_t k, uint64_t set, uint64_t *answer,
-                             size_t answer_words);
+uint64_t mastpickle_classify(const uint64_t *graph, size_t graph_words, uint64_t k, uint64_t set,
+                             uint64_t *answer, size_t answer_words);
 
 /*
- * Writes the graph without the edges that no group for k can use. It has the same groups for k, with the same sides.
+ * Writes the graph without the edges that no group for k can use. It has the same groups for k,
+ * with the same sides.
  * Returns 0; or 10, 11, and then writes the graph of no vertices; or 101, for either array.
  */
-uint64_t mastpickle_reduce(const uint64_t *graph, size_t graph_words, uint64_t k, uint64_t *reduced, size_t reduced_words);
+uint64_t mastpickle_reduce(const uint64_t *graph, size_t graph_words, uint64_t k, uint64_t *reduced,
+                           size_t reduced_words);
 
 /*
- * Writes the records of the first groups for k that are due at a bookmark, in listing order, as many as fit whole into
- * `out`; the bytes behind them stay. A record is the left side, then the right side, 8 bytes each, low byte first.
- * At kind MASTPICKLE_START all groups are due (`set` is not looked at), at MASTPICKLE_AFTER those that come after the set.
- * Writes into answer[0] how many records it wrote, into answer[1] MASTPICKLE_FINISHED or MASTPICKLE_MORE, and into answer[2]
- * and answer[3] the kind and the set of the bookmark from which the next page goes on; the set of MASTPICKLE_START is 0.
- * Returns 0; or 10, 11, and then writes no byte of `out`, and as the answer the count 0, MASTPICKLE_MORE and the bookmark
- * that it got; or 101, 102 (four words), 103.
+ * Writes the records of the first groups for k that are due at a bookmark, in listing order, as
+ * many as fit whole into `out`; the bytes behind them stay. A record is the left side, then the
+ * right side, 8 bytes each, low byte first.
+ * At kind MASTPICKLE_START all groups are due (`set` is not looked at), at MASTPICKLE_AFTER those
+ * that come after the set.
+ * Writes into answer[0] how many records it wrote, into answer[1] MASTPICKLE_FINISHED or
+ * MASTPICKLE_MORE, and into answer[2] and answer[3] the kind and the set of the bookmark from which
+ * the next page goes on; the set of MASTPICKLE_START is 0.
+ * Returns 0; or 10, 11, and then writes no byte of `out`, and as the answer the count 0,
+ * MASTPICKLE_MORE and the bookmark that it got; or 101, 102 (four words), 103.
  */
-uint64_t mastpickle_list_page(const uint64_t *graph, size_t graph_words, uint64_t k, uint64_t kind, uint64_t set, uint8_t *out,
-                              size_t out_bytes, uint64_t *answer, size_t answer_words);
+uint64_t mastpickle_list_page(const uint64_t *graph, size_t graph_words, uint64_t k, uint64_t kind,
+                              uint64_t set, uint8_t *out, size_t out_bytes, uint64_t *answer,
+                              size_t answer_words);
 
 /*
- * Finds the group for k with the most vertices, of equals the first in listing order. Writes its left side into answer[0]
- * and its right side into answer[1].
- * Returns 0; or 10, 11, or 12 where there is no group, and then writes zeros; or 101, 102 (two words).
+ * Finds the group for k with the most vertices, of equals the first in listing order. Writes its
+ * left side into answer[0] and its right side into answer[1].
+ * Returns 0; or 10, 11, or 12 where there is no group, and then writes zeros; or 101, 102 (two
+ * words).
  */
-uint64_t mastpickle_largest(const uint64_t *graph, size_t graph_words, uint64_t k, uint64_t *answer, size_t answer_words);
+uint64_t mastpickle_largest(const uint64_t *graph, size_t graph_words, uint64_t k, uint64_t *answer,
+                            size_t answer_words);
 
 /*
- * Finds record i of a listing. Writes into answer[0] the place of its first byte and into answer[1] its length, 16; zeros
- * where the listing has no whole record i.
+ * Finds record i of a listing. Writes into answer[0] the place of its first byte and into answer[1]
+ * its length, 16; zeros where the listing has no whole record i.
  * Returns 0, or 102 (two words).
  */
-uint64_t mastpickle_record_at(const uint8_t *listing, size_t listing_bytes, uint64_t i, uint64_t *answer, size_t answer_words);
+uint64_t mastpickle_record_at(const uint8_t *listing, size_t listing_bytes, uint64_t i,
+                              uint64_t *answer, size_t answer_words);
 
 #ifdef __cplusplus
 }

@@ -5,9 +5,11 @@
 
 pub mod c;
 mod lent;
+mod own_stack;
 
 use crate::generate::Rng;
 pub use lent::{noise, Lent};
+pub use own_stack::{OwnStack, Used};
 
 /// The words of a graph.
 pub const GRAPH_WORDS: usize = 129;

@@ -5,5 +5,6 @@ pub mod interface;
 pub mod options;
 pub mod reference;
 pub mod run;
+pub mod system;
 pub mod trials;
 pub mod worked;

@@ -1,12 +1,14 @@
-//! The trial of include/mastpickle.h: its numbers are those that the other trials count on, and it declares every function.
+//! The trial of include/mastpickle.h: its numbers are those that the other trials count on, it declares every function, and it
+//! has a version.
 
 use super::tally::Tally;
 use std::path::Path;
 
-const NUMBERS: [(&str, u64); 31] = [
+const NUMBERS: [(&str, u64); 32] = [
     ("GRAPH_WORDS", 129),
     ("RECORD_BYTES", 16),
     ("LONGEST_EDGE_LIST", 6051),
+    ("STACK_BYTES", 40_960),
     ("NO_OPENING", 1),
     ("TOO_MANY_VERTICES", 2),
     ("UNKNOWN_COMMAND", 3),
@@ -37,8 +39,14 @@ const NUMBERS: [(&str, u64); 31] = [
     ("GROUP", 7),
 ];
 
+/// The one definition that is no number.
+const VERSION: &str = "VERSION";
+
+/// The most columns that a line of the header has.
+const COLUMNS: usize = 100;
+
 /// The functions, each with how many arguments it takes.
-const FUNCTIONS: [(&str, usize); 10] = [
+pub const FUNCTIONS: [(&str, usize); 10] = [
     ("new", 3),
     ("check_sound", 2),
     ("check_call", 3),
@@ -51,9 +59,14 @@ const FUNCTIONS: [(&str, usize); 10] = [
     ("record_at", 5),
 ];
 
-pub fn run(_seed: u64, _amount: u64) -> Result<Tally, String> {
+/// The header.
+pub fn text() -> Result<String, String> {
     let file = Path::new(env!("CARGO_MANIFEST_DIR")).join("../include/mastpickle.h");
-    let header = std::fs::read_to_string(file).map_err(|fault| format!("the header: {fault}"))?;
+    std::fs::read_to_string(file).map_err(|fault| format!("the header: {fault}"))
+}
+
+pub fn run(_seed: u64, _amount: u64) -> Result<Tally, String> {
+    let header = text()?;
     let numbers = numbers(&header)?;
     let functions = functions(&header);
     if numbers != NUMBERS.map(|(name, number)| (name.to_string(), number)) {
@@ -62,24 +75,43 @@ pub fn run(_seed: u64, _amount: u64) -> Result<Tally, String> {
     if functions != FUNCTIONS.map(|(name, arguments)| (name.to_string(), arguments)) {
         return Err(format!("the header has the functions {functions:?}"));
     }
+    version(&header)?;
+    if let Some(line) = header.lines().find(|line| line.chars().count() > COLUMNS) {
+        return Err(format!("over {COLUMNS} columns: {line}"));
+    }
     let mut tally = Tally::default();
-    tally.cases += (numbers.len() + functions.len()) as u64;
+    tally.cases += (numbers.len() + functions.len()) as u64 + 2;
     Ok(tally)
 }
 
-/// The names and numbers that the header defines, in its order.
-fn numbers(header: &str) -> Result<Vec<(String, u64)>, String> {
+/// What the header defines, in its order: a name and the word behind it.
+fn definitions(header: &str) -> impl Iterator<Item = (&str, &str)> {
     header
         .lines()
         .filter_map(|line| line.strip_prefix("#define MASTPICKLE_"))
-        .filter(|rest| rest.contains(' '))
-        .map(|rest| {
-            let mut words = rest.split_whitespace();
-            let (name, number) = (words.next().unwrap_or(""), words.next().unwrap_or(""));
-            let number = number.parse().map_err(|_| format!("{rest} is no number"))?;
+        .filter_map(|rest| rest.split_once(' '))
+        .map(|(name, rest)| (name, rest.split_whitespace().next().unwrap_or("")))
+}
+
+/// The names and numbers that the header defines, in its order.
+pub fn numbers(header: &str) -> Result<Vec<(String, u64)>, String> {
+    definitions(header)
+        .filter(|&(name, _)| name != VERSION)
+        .map(|(name, word)| {
+            let number = word.parse();
+            let number = number.map_err(|_| format!("{name} {word} is no number"))?;
             Ok((name.to_string(), number))
         })
         .collect()
+}
+
+/// The version that the header defines.
+pub fn version(header: &str) -> Result<&str, String> {
+    definitions(header)
+        .find(|&(name, _)| name == VERSION)
+        .and_then(|(_, word)| word.strip_prefix('"')?.strip_suffix('"'))
+        .filter(|version| version.split('.').flat_map(str::parse::<u32>).count() == 3)
+        .ok_or_else(|| format!("the header has no {VERSION} of three numbers"))
 }
 
 /// The functions that the header declares, in its order.

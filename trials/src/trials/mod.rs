@@ -2,6 +2,7 @@
 
 mod arrays;
 mod by_hand;
+mod child;
 mod expect;
 mod guards;
 mod header;
@@ -9,8 +10,12 @@ mod many_groups;
 mod page_lists;
 mod program;
 mod reference;
+mod stack;
+mod streams;
+mod symbols;
 mod tally;
 mod traps;
+mod usage;
 mod with_graphs;
 mod with_lists;
 mod with_pages;
@@ -35,7 +40,7 @@ const fn trial(
 }
 
 /// All trials; the longest come first, so that two threads share the work evenly.
-pub const TRIALS: [Trial; 19] = [
+pub const TRIALS: [Trial; 23] = [
     trial("program", 6_000, program::run),
     trial("page_lists", 30_000, page_lists::run),
     trial("many_groups", 60, many_groups::run),
@@ -44,8 +49,10 @@ pub const TRIALS: [Trial; 19] = [
     trial("largest", 40_000, with_pages::largest),
     trial("reference", 3_000, reference::run),
     trial("classify", 150_000, with_graphs::classify),
+    trial("streams", 1, streams::run),
     trial("reduce", 150_000, with_graphs::reduce),
     trial("decode", 150_000, with_lists::decode),
+    trial("stack", 3_000, stack::run),
     trial("encode", 60_000, with_lists::encode),
     trial("round_trip", 60_000, with_lists::round_trip),
     trial("new", 40_000, with_graphs::new),
@@ -53,6 +60,8 @@ pub const TRIALS: [Trial; 19] = [
     trial("check_call", 100_000, with_graphs::check_call),
     trial("record_at", 100_000, with_pages::record_at),
     trial("worked", 1, worked::run),
+    trial("usage", 1, usage::run),
     trial("header", 1, header::run),
+    trial("symbols", 1, symbols::run),
     trial("guards", 10_000, guards::run),
 ];

@@ -1,18 +1,14 @@
-//! The trial of the program `groups`: its output for an input from a file and through a pipe.
+//! The trial of the program `groups`: its output for an input from a file and through a pipe, and no word on standard error.
 
+use super::child;
 use super::tally::{each_case, hex, Tally};
 use crate::generate::{damaged, edge_list, mutated, random_bytes, Rng};
 use crate::reference::program;
 use std::fs::File;
-use std::io::{ErrorKind, Read, Write};
-use std::path::{Path, PathBuf};
-use std::process::{Child, Command, Stdio};
+use std::io::{ErrorKind, Write};
+use std::path::Path;
+use std::process::{Output, Stdio};
 use std::time::Duration;
-
-/// The compiled program.
-fn path() -> PathBuf {
-    Path::new(env!("CARGO_MANIFEST_DIR")).join("../target/bin/groups")
-}
 
 pub fn run(seed: u64, amount: u64) -> Result<Tally, String> {
     let file =
@@ -29,12 +25,14 @@ pub fn run(seed: u64, amount: u64) -> Result<Tally, String> {
         let printed = printed.map_err(|fault| format!("the program: {fault}"))?;
         let must = program(&input);
         count(tally, &input, &must);
-        if printed == must.as_bytes() {
-            Ok(())
-        } else {
-            let printed = String::from_utf8_lossy(&printed).into_owned();
-            Err(format!("{}\n  left {printed}\n  must {must}", hex(&input)))
+        if printed.stdout == must.as_bytes() && printed.stderr.is_empty() {
+            return Ok(());
         }
+        let [left, error] = [&printed.stdout, &printed.stderr].map(|s| String::from_utf8_lossy(s));
+        let input = hex(&input);
+        Err(format!(
+            "{input}\n  left {left}\n  must {must}\n  standard error {error}"
+        ))
     });
     // The file is not there where no case used one.
     let _ = std::fs::remove_file(&file);
@@ -83,30 +81,24 @@ fn input(rng: &mut Rng) -> Vec<u8> {
     input
 }
 
-fn from_file(file: &Path, input: &[u8]) -> std::io::Result<Vec<u8>> {
+fn from_file(file: &Path, input: &[u8]) -> std::io::Result<Output> {
     std::fs::write(file, input)?;
-    let output = Command::new(path())
-        .stdin(File::open(file)?)
-        .stderr(Stdio::null())
-        .output()?;
-    Ok(output.stdout)
+    child::program().stdin(File::open(file)?).output()
 }
 
 /// Writes the input in random pieces with short pauses, while the output is read.
-fn through_pipe(rng: &mut Rng, input: &[u8]) -> std::io::Result<Vec<u8>> {
-    let mut child = Command::new(path())
+fn through_pipe(rng: &mut Rng, input: &[u8]) -> std::io::Result<Output> {
+    let mut child = child::program()
         .stdin(Stdio::piped())
         .stdout(Stdio::piped())
-        .stderr(Stdio::null())
+        .stderr(Stdio::piped())
         .spawn()?;
     let pieces = pieces(rng, input);
-    let printed = std::thread::scope(|scope| {
+    std::thread::scope(|scope| {
         let stdin = child.stdin.take();
         scope.spawn(|| write_pieces(stdin, &pieces));
-        read_all(&mut child)
-    });
-    child.wait()?;
-    printed
+        child.wait_with_output()
+    })
 }
 
 /// Cuts an input into pieces, each with the microseconds to wait in front of it.
@@ -136,11 +128,4 @@ fn write_pieces(stdin: Option<std::process::ChildStdin>, pieces: &[(u64, &[u8])]
             Err(fault) => panic!("writing to the program: {fault}"),
         }
     }
-}
-
-fn read_all(child: &mut Child) -> std::io::Result<Vec<u8>> {
-    let mut printed = Vec::new();
-    let mut stdout = child.stdout.take().expect("the program's output is a pipe");
-    stdout.read_to_end(&mut printed)?;
-    Ok(printed)
 }
