@@ -1,5 +1,6 @@
 .PHONY: help run lib example trials soak bench bench-check test clean
 .DELETE_ON_ERROR:
+.NOTPARALLEL:
 
 LIB = target/staticlib/libmastpickle.a
 GROUPS = target/bin/groups
@@ -8,9 +9,10 @@ CARGO = cargo run --quiet --release --offline --locked
 TRIALS = $(CARGO) --manifest-path trials/Cargo.toml --target-dir target/trials --
 BENCH = $(CARGO) --manifest-path bench/Cargo.toml --target-dir target/bench --
 
-# How long the soak runs, and where its random numbers begin.
+# How long the soak runs, and where its random numbers begin; further options of the trials, such as --only NAME.
 SECONDS = 600
 SEED = 1
+ARGS =
 
 # Runs the prover (first argument) with its notes in a log (second); where it fails, shows the end of the log.
 define logged
