@@ -10,7 +10,7 @@
  * partners, then for each the set of its negative partners. An array may be longer than a call
  * needs: the words behind are neither read nor written.
  *
- * Every function returns 0 or the number of a refusal. Refusals 1 to 13 are those of the calls;
+ * Every function returns 0 or the number of a refusal. Refusals 1 to 14 are those of the calls;
  * each function says which it has and what it then writes. The numbers from 101 up are this
  * interface's own, are looked at first and in their order, and change nothing in any array.
  *
@@ -33,6 +33,7 @@
  *     mastpickle_list_page    40,960
  *     mastpickle_largest      30,720
  *     mastpickle_record_at       256
+ *     mastpickle_count        61,440
  *
  * Each is at least a quarter above what the machine code can take, and `make trials` measures
  * calls against it. The frames of the caller and of signal handlers are the caller's to add, and
@@ -42,7 +43,8 @@
  *
  * How long a call takes is not promised; bench/RESULTS.md has what was measured. Only small pages
  * bound the time of a call, and they do not bound it for sure: mastpickle_list_page ends when its
- * buffer is full, but where groups are rare it may search long for the next one.
+ * buffer is full, but where groups are rare it may search long for the next one. mastpickle_count
+ * goes through all groups, of which a graph may have thousands of millions.
  */
 #ifndef MASTPICKLE_H
 #define MASTPICKLE_H
@@ -55,14 +57,15 @@ extern "C" {
 #endif
 
 /* The version of the library and of the program `groups`. */
-#define MASTPICKLE_VERSION "1.0.0"
+#define MASTPICKLE_VERSION "1.1.0"
 
 /* The words of a graph, the bytes of a record, the longest edge list that mastpickle_encode writes,
-   and a stack that is enough for every call. */
+   the most sets that mastpickle_count takes, and a stack that is enough for every call. */
 #define MASTPICKLE_GRAPH_WORDS 129
 #define MASTPICKLE_RECORD_BYTES 16
 #define MASTPICKLE_LONGEST_EDGE_LIST 6051
-#define MASTPICKLE_STACK_BYTES 40960
+#define MASTPICKLE_MOST_SETS 256
+#define MASTPICKLE_STACK_BYTES 61440
 
 /* Refusals of an edge list, by mastpickle_decode. */
 #define MASTPICKLE_NO_OPENING 1
@@ -80,6 +83,7 @@ extern "C" {
 #define MASTPICKLE_THRESHOLD_TOO_LARGE 11
 #define MASTPICKLE_NO_GROUP 12
 #define MASTPICKLE_BUFFER_TOO_SHORT 13
+#define MASTPICKLE_TOO_MANY_SETS 14
 
 /* Refusals of this interface: an array for a graph has fewer than MASTPICKLE_GRAPH_WORDS words; the
    array for the answer has fewer words than the function says; a bookmark's kind is none of the two
@@ -190,6 +194,17 @@ uint64_t mastpickle_largest(const uint64_t *graph, size_t graph_words, uint64_t 
  */
 uint64_t mastpickle_record_at(const uint8_t *listing, size_t listing_bytes, uint64_t i,
                               uint64_t *answer, size_t answer_words);
+
+/*
+ * Writes into counts[i], for each i below sets_length, in how many groups for k the set sets[i]
+ * lies: how many contain all its vertices. The empty set lies in all groups, a set with a vertex
+ * that the graph does not have in none. The words of `counts` behind them stay.
+ * Returns 0; or 10, 11, 13 where `counts` is shorter than `sets`, 14 where there are more than
+ * MASTPICKLE_MOST_SETS sets, and then writes no word of `counts`; or 101.
+ */
+uint64_t mastpickle_count(const uint64_t *graph, size_t graph_words, uint64_t k,
+                          const uint64_t *sets, size_t sets_length, uint64_t *counts,
+                          size_t counts_length);
 
 #ifdef __cplusplus
 }

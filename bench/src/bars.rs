@@ -1,7 +1,10 @@
 //! The bars that the library is held to.
 
 use crate::measure::Case;
-use crate::results::{by_pages, of_cliquer, of_mbcenum, over_igraph, slowest_page, Results};
+use crate::results::{
+    by_pages, counting_most, counting_one, of_cliquer, of_mbcenum, over_igraph, slowest_page,
+    Results,
+};
 use crate::table::{mean, milliseconds, ratio, Table};
 use crate::traps::Call;
 
@@ -46,6 +49,7 @@ pub fn table(results: &Results) -> Table {
     for bar in listing(results)
         .into_iter()
         .chain(largest_and_pages(results))
+        .chain(counting(results))
     {
         let sign = match bar.side {
             AtLeast => "≥",
@@ -93,6 +97,16 @@ fn largest_and_pages(results: &Results) -> Vec<Bar> {
             1.5,
             by_pages,
         ),
+    ]
+}
+
+/// The bars of counting.
+fn counting(results: &Results) -> Vec<Bar> {
+    let one = results.means(counting_one).and_then(mean);
+    let most = results.means(counting_most).and_then(mean);
+    vec![
+        at_most("counting 1 set / listing, mean over families", 1.2, one),
+        at_most("counting 256 sets / listing, mean over families", 4.0, most),
     ]
 }
 

@@ -57,6 +57,22 @@ impl Graph {
         }
     }
 
+    /// Writes for each of the sets in how many groups for k it lies.
+    pub fn count(&self, k: u64, sets: &[u64], counts: &mut [u64]) {
+        let refused = unsafe {
+            c::mastpickle_count(
+                self.words.as_ptr(),
+                self.words.len(),
+                k,
+                sets.as_ptr(),
+                sets.len(),
+                counts.as_mut_ptr(),
+                counts.len(),
+            )
+        };
+        assert_eq!(refused, 0, "the call is not refused");
+    }
+
     /// The sides of the largest group for k, both empty where there is none.
     pub fn largest(&self, k: u64) -> (u64, u64) {
         let mut answer = [0; 2];

@@ -2,6 +2,7 @@
 
 mod bars;
 mod clock;
+mod counting;
 mod families;
 mod library;
 mod measure;

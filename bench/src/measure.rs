@@ -1,6 +1,7 @@
 //! Measuring the library and its peers on one graph, and comparing what they find.
 
 use crate::clock;
+use crate::counting::{self, Counting};
 use crate::library::{self, Graph, RECORD, START};
 use crate::pages::{self, Pages};
 use crate::peers::cliquer::Cliquer;
@@ -50,6 +51,7 @@ pub struct Case {
     pub mbcsear: f64,
     pub cliquer: Option<f64>,
     pub pages: Option<Pages>,
+    pub counting: Option<Counting>,
 }
 
 /// The seconds of igraph's two ways: counting alone, and handing each clique over.
@@ -169,6 +171,7 @@ impl Bench {
         self.verdict
             .compare(&format!("{name}, MBCSear-SSP*"), size(peer), most);
         let pages = (k == 0).then(|| pages::measure(self, name, graph, &listed));
+        let counting = (k == 0).then(|| counting::measure(self, name, graph, &listed));
         Case {
             k,
             groups,
@@ -180,6 +183,7 @@ impl Bench {
             mbcsear,
             cliquer: None,
             pages,
+            counting,
         }
     }
 

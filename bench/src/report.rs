@@ -3,18 +3,21 @@
 use crate::bars;
 use crate::measure::{Case, THRESHOLDS};
 use crate::results::{
-    by_pages, of_cliquer, of_mbcenum, of_mbcsear, over_igraph, slowest_page, Results,
+    by_pages, counting_most, counting_one, nanoseconds_a_test, of_cliquer, of_mbcenum, of_mbcsear,
+    over_igraph, slowest_page, Results,
 };
 use crate::table::{milliseconds, or_missing, ratio, Table};
 use std::process::Command;
 
 /// The whole report.
 pub fn text(results: &Results) -> String {
+    let counting_words = counting_words(results);
     let sections = [
         ("Bars", BARS, bars::table(results)),
         ("Listing, k = 0", LISTING, listing(results)),
         ("Largest, k = 0", LARGEST, largest(results)),
         ("Pages of 64 records, k = 0", PAGES, pages(results)),
+        ("Counting, k = 0", &counting_words, counting(results)),
         ("Other thresholds", OTHERS, thresholds(results)),
         ("Traps", TRAPS, traps(results)),
     ];
@@ -45,6 +48,12 @@ Milliseconds. cliquer works on the signed double cover.";
 const PAGES: &str = "\
 The whole listing by pages as a ratio to one call, and the slowest page in milliseconds, after any bookmark along the
 listing, after random sets, beginnings of groups and single vertices.";
+
+const COUNTING: &str = "\
+Milliseconds; the listing is in one call. The sets are subsets of the graph's groups, from one
+vertex to the whole group, and every fourth is a random set; the 1 set is a subset of a group. A
+test is whether one set lies in one group: its time is what the 255 other sets add, divided by 255
+and by the groups. Counts were compared with the listing.";
 
 const OTHERS: &str = "\
 Geometric means over the graphs of a family, in milliseconds; groups are those of the first graph.";
@@ -182,6 +191,52 @@ fn pages(results: &Results) -> Table {
             milliseconds(slowest),
         ]);
     }
+    table
+}
+
+/// The words about counting, with the families that take longest beside the listing.
+fn counting_words(results: &Results) -> String {
+    let highest = |of| match results.highest(of) {
+        Some((family, mean)) => format!("{} ({family})", ratio(mean)),
+        None => "not measured".to_string(),
+    };
+    let (one, most) = (highest(counting_one), highest(counting_most));
+    format!("{COUNTING}\nThe highest family mean is {one} for 1 set,\nand {most} for 256 sets.")
+}
+
+fn counting(results: &Results) -> Table {
+    let mut table = Table::new(&[
+        "Graph",
+        "Groups",
+        "Listing",
+        "1 set",
+        "256 sets",
+        "1 set / listing",
+        "256 sets / listing",
+        "nanoseconds / test",
+    ]);
+    let row = |case: &Case| {
+        let counting = case.counting.as_ref();
+        [
+            case.groups.to_string(),
+            milliseconds(case.list),
+            or_missing(counting.map(|counting| counting.one), milliseconds),
+            or_missing(counting.map(|counting| counting.most), milliseconds),
+            or_missing(counting_one(case), ratio),
+            or_missing(counting_most(case), ratio),
+            or_missing(nanoseconds_a_test(case), ratio),
+        ]
+    };
+    let means = [
+        None,
+        None,
+        None,
+        None,
+        Some(counting_one as _),
+        Some(counting_most as _),
+        Some(nanoseconds_a_test as _),
+    ];
+    by_graph(results, &mut table, row, means);
     table
 }
 

@@ -1,5 +1,6 @@
 //! What a whole run measured, and its means.
 
+use crate::counting::MOST_SETS;
 use crate::measure::Case;
 use crate::table::mean;
 use crate::traps::Timed;
@@ -37,6 +38,13 @@ impl Results {
         self.families.iter().map(|family| family.mean(of)).collect()
     }
 
+    /// The family with the highest mean, and the mean; none where a family does not have it.
+    pub fn highest(&self, of: fn(&Case) -> Option<f64>) -> Option<(&'static str, f64)> {
+        let names = self.families.iter().map(|family| family.name);
+        let means = names.zip(self.means(of)?);
+        means.max_by(|a, b| a.1.total_cmp(&b.1))
+    }
+
     /// The cases of all graphs for threshold 0.
     pub fn cases(&self) -> impl Iterator<Item = &Case> {
         self.families.iter().flat_map(|family| family.at(0))
@@ -70,4 +78,21 @@ pub fn by_pages(case: &Case) -> Option<f64> {
 
 pub fn slowest_page(case: &Case) -> Option<f64> {
     Some(case.pages.as_ref()?.slowest)
+}
+
+/// How many times as long as the listing counting one set takes.
+pub fn counting_one(case: &Case) -> Option<f64> {
+    Some(case.counting.as_ref()?.one / case.list)
+}
+
+/// How many times as long as the listing counting the most sets takes.
+pub fn counting_most(case: &Case) -> Option<f64> {
+    Some(case.counting.as_ref()?.most / case.list)
+}
+
+/// The nanoseconds that each further set takes for each group.
+pub fn nanoseconds_a_test(case: &Case) -> Option<f64> {
+    let counting = case.counting.as_ref()?;
+    let tests = (MOST_SETS - 1) * case.groups;
+    Some((counting.most - counting.one) * 1e9 / tests as f64)
 }

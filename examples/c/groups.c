@@ -1,4 +1,4 @@
-/* Lists the groups of a graph for k = 1 by pages of one record, and finds the largest. */
+/* Lists the groups of a graph for k = 1 by pages of one record, finds the largest, and counts in how many of them sets lie. */
 #include <inttypes.h>
 #include <stdio.h>
 
@@ -45,6 +45,22 @@ static int refused(const char *call, uint64_t number)
     return 1;
 }
 
+/* Prints in how many groups each of some sets lies: the empty one, 0, 1 and 3, 1 and 4. */
+static int count(const uint64_t *graph)
+{
+    const uint64_t sets[] = {0, 1 << 0, 1 << 1 | 1 << 3, 1 << 1 | 1 << 4};
+    uint64_t counts[4];
+    uint64_t number = mastpickle_count(graph, MASTPICKLE_GRAPH_WORDS, k, sets, 4, counts, 4);
+    if (number != 0)
+        return refused("count", number);
+    for (int i = 0; i < 4; i++) {
+        printf("in %" PRIu64 " of them:", counts[i]);
+        print_set(sets[i]);
+        printf("\n");
+    }
+    return 0;
+}
+
 int main(void)
 {
     uint64_t graph[MASTPICKLE_GRAPH_WORDS];
@@ -71,5 +87,5 @@ int main(void)
         return refused("largest", number);
     else
         print_group("largest", sides[0], sides[1]);
-    return 0;
+    return count(graph);
 }

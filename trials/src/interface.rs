@@ -21,6 +21,7 @@ pub struct Outcome {
     pub graph: Vec<u64>,
     pub out: Vec<u8>,
     pub answer: Vec<u64>,
+    pub counts: Vec<u64>,
 }
 
 type Called = Result<Outcome, String>;
@@ -215,6 +216,30 @@ pub fn record_at(rng: &mut Rng, listing: &[u8], i: u64, answer: &[u64]) -> Calle
     Ok(Outcome {
         number,
         answer: answer.written()?,
+        ..Outcome::default()
+    })
+}
+
+pub fn count(rng: &mut Rng, graph: &[u64], k: u64, sets: &[u64], counts: &[u64]) -> Called {
+    let mut graph = Lent::new(rng, "graph", graph);
+    let mut sets = Lent::new(rng, "sets", sets);
+    let mut counts = Lent::new(rng, "counts", counts);
+    let number = unsafe {
+        c::mastpickle_count(
+            graph.pointer(),
+            graph.length,
+            k,
+            sets.pointer(),
+            sets.length,
+            counts.pointer(),
+            counts.length,
+        )
+    };
+    graph.unchanged()?;
+    sets.unchanged()?;
+    Ok(Outcome {
+        number,
+        counts: counts.written()?,
         ..Outcome::default()
     })
 }

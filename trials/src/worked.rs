@@ -1,13 +1,14 @@
 //! What the program crates/trials must print: the cases that it is given, answered by the reference.
 
 use crate::reference::{
-    classify, decode, encode, largest, list_page, record_at, reduce, Bookmark, SignedGraph, Verdict,
+    classify, count, decode, encode, largest, list_page, record_at, reduce, Bookmark, SignedGraph,
+    Verdict,
 };
 
 /// What the program is given. Its first lines say what the letter of a case stands for.
 const CASES: &str = include_str!("../../crates/trials/stdin");
 
-/// What each byte of a buffer is before a call.
+/// What each byte of a buffer, and each word of an array for counts, is before a call.
 const FILL: u8 = 0xaa;
 
 /// The most bytes of a buffer.
@@ -41,6 +42,10 @@ fn answer(line: &str, graph: &mut SignedGraph) -> String {
         ('a', 3..=10) => {
             let from = Bookmark::After(word(&bytes[2..]));
             paged(graph, number(0), from, room(1))
+        }
+        ('n', 5) => {
+            let [sets, places] = [1, 3].map(|i| word(&bytes[i..i + 2]));
+            counted(graph, number(0), sets, places)
         }
         ('i', 3..=10) => looked_up(graph, number(0), room(1), word(&bytes[2..])),
         _ => panic!("no case: {line}"),
@@ -158,4 +163,16 @@ fn looked_up(graph: &SignedGraph, k: u64, length: usize, i: u64) -> String {
     let mut listing = vec![FILL; ROOM];
     list_page(graph, k, Bookmark::Start, &mut listing);
     said(0, &[]) + &buffered(record_at(&listing[..length], i))
+}
+
+/// Counts into `places` words for so many sets: 0, 1, 2 and so on, but the last is all 64 vertices.
+fn counted(graph: &SignedGraph, k: u64, sets: u64, places: u64) -> String {
+    let mut sets: Vec<u64> = (0..sets).collect();
+    if let Some(last) = sets.last_mut() {
+        *last = u64::MAX;
+    }
+    let mut counts = vec![u64::from(FILL); places as usize];
+    let number = count(graph, k, &sets, &mut counts).err().unwrap_or(0);
+    let counts: String = counts.iter().map(|count| format!(" {count:x}")).collect();
+    said(number, &[]) + &format!(" [{counts} ]")
 }

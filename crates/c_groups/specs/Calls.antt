@@ -5,8 +5,9 @@ use lib.ListN.{length}
 use Rattle.signed_graph.specs.Calls.{refusalNumber}
 use Rattle.clique.specs.Verdicts.{classified}
 use Rattle.largest.specs.Largest.{largestGroup, largestNumber}
+use Rattle.counts.specs.Calls.{countsOf, countsNumber}
 use Rattle.c_words.specs.Graphs.{graphAt}
-use Rattle.c_words.specs.Refusals.{ownRefusal, numberAfter, wordsAfter}
+use Rattle.c_words.specs.Refusals.{graphRefusal, ownRefusal, unlessRefused, numberAfter, wordsAfter}
 use Rattle.c_groups.specs.Answers.{classifiedWords, largestWords}
 
 -- ---- classify
@@ -27,3 +28,13 @@ largestReturns graph k answer =
 abbrev pub largestAnswer : List ℕ → ℕ → List ℕ → List ℕ
 largestAnswer graph k answer =
     wordsAfter (ownRefusal (length graph) (length answer) 2) (largestWords (largestGroup (graphAt graph) k)) answer
+
+-- ---- counts
+
+abbrev pub countReturns : List ℕ → ℕ → List ℕ → List ℕ → ℕ
+countReturns graph k sets counts =
+    numberAfter (graphRefusal (length graph)) (countsNumber (graphAt graph) k sets counts)
+
+abbrev pub countCounts : List ℕ → ℕ → List ℕ → List ℕ → List ℕ
+countCounts graph k sets counts =
+    unlessRefused (graphRefusal (length graph)) counts (countsOf (graphAt graph) k sets counts)

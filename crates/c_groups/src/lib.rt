@@ -1,10 +1,10 @@
-// The calls about groups on arrays: what a set is, and the largest group.
+// The calls about groups on arrays: what a set is, the largest group, and in how many groups sets lie.
 use clique::Classified;
 use clique::Verdict;
 ghost use mathlib.Core.Path.{_≡_};
 ghost use Rattle.clique.specs.Verdicts.{classifiedNumber};
 ghost use Rattle.c_groups.specs.Answers.{verdictWords, classifiedWords};
-ghost use Rattle.c_groups.specs.Calls.{classifyReturns, classifyAnswer, largestReturns, largestAnswer};
+ghost use Rattle.c_groups.specs.Calls.{classifyReturns, classifyAnswer, largestReturns, largestAnswer, countReturns, countCounts};
 
 fn classified_number(classified: Classified) -> u64
     ensures { λ r. ⌜ r ≡ classifiedNumber classified ⌝ }
@@ -68,4 +68,17 @@ pub fn largest(graph: &[u64], k: u64, answer: &mut [u64]) -> u64
     c_words::put_words(&words, answer);
     let outcome = found.outcome;
     outcome.number()
+}
+
+// Writes for each set how many groups for threshold k contain it.
+pub fn count(graph: &[u64], k: u64, sets: &[u64], counts: &mut [u64]) -> u64
+    ensures number { λ r. ⌜ r ≡ countReturns (now (graph .entry)) k (now (sets .entry)) (now (counts .entry)) ⌝ }
+    ensures words { λ r. ⌜ now (counts .exit) ≡ countCounts (now (graph .entry)) k (now (sets .entry)) (now (counts .entry)) ⌝ }
+{
+    let own = c_words::graph_refusal(graph.len());
+    if own != 0 {
+        return own;
+    }
+    let counting = counts::count_containing(c_words::graph_at(graph), k, sets, counts);
+    counting.number()
 }

@@ -1,12 +1,11 @@
--- Groups in 64 bits: fewer than 2 to the 64 of them, and their sides; and what a page leaves of those that are due.
--- Assumes nothing.
-use Prim.Native.Nat.{ℕ, zero, suc, _+_, _*_, _/_, _^_, _≤_, _<_}
+-- Groups in 64 bits: fewer than 2 to the 64 of them, and their sides; and a page's records are within its buffer. Assumes nothing.
+use Prim.Native.Nat.{ℕ, zero, suc, _*_, _^_, _≤_, _<_}
 use native.Mathlib.Nat.{pow-le-pow-right, two-pow-succ}
 use native.Mathlib.Omega.{arith}
-use mathlib.Core.Path.{_≡_, refl, sym, ap, _∙_}
+use mathlib.Core.Path.{_≡_, refl, sym, ap, _∙_, subst}
 use mathlib.Core.Bool.{Bool, true, false}
 use mathlib.Core.List.{List, [], _∷_, map, List·Memᴰ, List·Memᴰ·head, List·Memᴰ·tail}
-use lib.ListN.{length, length-append, length-drop, length-map}
+use lib.ListN.{length, length-append, length-map}
 use Rattle.vertex_set.specs.Lists.{All, select}
 use Rattle.vertex_set.specs.Sets.{insert}
 use Rattle.vertex_set.proofs.Booleans.{refute}
@@ -15,8 +14,7 @@ use Rattle.signed_graph.specs.declared.SignedGraph.{SignedGraph}
 use Rattle.signed_graph.specs.declared.Check.{Check}
 use Rattle.signed_graph.specs.declared.Check.the-variants.{Accepted, Refused}
 use Rattle.signed_graph.specs.Calls.{checkOf}
-use Rattle.signed_graph.proofs.Soundness.{Sound, to-sound}
-use Rattle.signed_graph.proofs.Calls.{not-accepted, accepted-sound}
+use Rattle.signed_graph.proofs.Soundness.{Sound}
 use Rattle.signed_graph.specs.Thresholds.{Threshold}
 use Rattle.clique.specs.Groups.{isGroup, groups}
 use Rattle.vertex_set.specs.Order.{precedes, choices, subsets}
@@ -25,13 +23,11 @@ use Rattle.vertex_set.proofs.Order.{subsets-all}
 use Rattle.clique.proofs.Groups.{group-words}
 use Rattle.pages.specs.declared.Bookmark.{Bookmark}
 use Rattle.pages.specs.declared.Bookmark.the-variants.{Start, After}
-use Rattle.pages.specs.declared.End.the-variants.{Finished, More}
+use Rattle.pages.specs.declared.Page.{Page}
 use Rattle.clique.specs.Listing.{Item, itemSet, itemOf, listing}
-use Rattle.pages.specs.Pages.{due, answer, fitting, pageBy}
+use Rattle.pages.specs.Pages.{due, answer, pageBy}
 use Rattle.group_pages.specs.Calls.{dueGroups, pageOf}
 use Rattle.group_pages.specs.Records.{recordWidth}
-use Rattle.pages.proofs.Pages.{finished-if, none-left, answer-next}
-use Rattle.clique.proofs.Listing.{listing-sorted}
 
 -- ---- fewer than 2 to the 64
 
@@ -89,7 +85,7 @@ abbrev pub Narrow : Item → Type 0
 Narrow x = (x .left < 2 ^ 64) × (x .right < 2 ^ 64)
 
 module _ (g : SignedGraph) (k : Threshold) where
-  listing-sides : All Narrow (listing g k)
+  pub listing-sides : All Narrow (listing g k)
   unfolding listing
   listing-sides = go (groups g k)
     where
@@ -97,10 +93,11 @@ module _ (g : SignedGraph) (k : Threshold) where
       go [] = tt
       go (s ∷ l) = ((left-lt g s, right-lt g s), go l)
 
-  pub due-sides : (m : Bookmark) → All Narrow (dueGroups g k m)
+  -- what holds of all groups holds of those that are due
+  pub due-all : (P : Item → Type 0) → All P (listing g k) → (m : Bookmark) → All P (dueGroups g k m)
   unfolding due
-  due-sides Start = listing-sides
-  due-sides (After s) = all-select (λ x. precedes s (x .vertices)) Narrow (listing g k) listing-sides
+  due-all P h Start = h
+  due-all P h (After s) = all-select (λ x. precedes s (x .vertices)) P (listing g k) h
 
 -- ---- pages
 
@@ -108,43 +105,10 @@ module _ (g : SignedGraph) (k : Threshold) (m : Bookmark) (room : ℕ) where
   abbrev ds : List Item
   ds = dueGroups g k m
 
-  -- what a page counts is due no more at its next bookmark
-  pub page-rest : pageOf g k m room .count + length (dueGroups g k (pageOf g k m room .next)) ≡ length (dueGroups g k m)
+  pub page-fits : (page : Page) → page ≡ pageOf g k m room → recordWidth * page .count ≤ room
   unfolding answer
-  page-rest = go (checkOf g k) refl
-    where
-      go : (c : Check) → checkOf g k ≡ c → pageBy itemSet recordWidth c m room ds .count + length (dueGroups g k (pageBy itemSet recordWidth c m room ds .next)) ≡ length ds
-      go Accepted e =
-          omega (
-            arith,
-            length-drop (room / recordWidth) ds,
-            ap length (answer-next itemSet recordWidth (listing g k) (listing-sorted g (to-sound g (accepted-sound g k e)) k) m room),
-          )
-      go (Refused why) e = omega arith
-
-  -- where it says that it is the last, it counts all that are due
-  pub page-last : pageOf g k m room .end ≡ Finished → pageOf g k m room .count ≡ length (dueGroups g k m)
-  unfolding answer
-  page-last = go (checkOf g k)
-    where
-      go : (c : Check) → pageBy itemSet recordWidth c m room ds .end ≡ Finished → pageBy itemSet recordWidth c m room ds .count ≡ length ds
-      go Accepted e = omega (arith, none-left (length ds) (fitting recordWidth room ds) e)
-      go (Refused why) e = absurd (let z : _≡_ {A = ℕ} 0 1 = cc in omega arith)
-
-  pub page-fits : recordWidth * pageOf g k m room .count ≤ room
-  unfolding answer
-  page-fits = go (checkOf g k)
+  page-fits page is = subst (λ (p : Page). recordWidth * p .count ≤ room) (sym is) (go (checkOf g k))
     where
       go : (c : Check) → recordWidth * pageBy itemSet recordWidth c m room ds .count ≤ room
       go Accepted = omega arith
       go (Refused why) = omega arith
-
-  -- where an accepted page with a place for a record says that there is more, fewer groups are due at its next bookmark
-  pub fewer-due : recordWidth ≤ room → checkOf g k ≡ Accepted → pageOf g k m room .end ≡ More
-      → length (dueGroups g k (pageOf g k m room .next)) < length (dueGroups g k m)
-  unfolding answer
-  fewer-due some e more = omega (arith, page-rest, counts (checkOf g k) e more)
-    where
-      counts : (c : Check) → c ≡ Accepted → pageBy itemSet recordWidth c m room ds .end ≡ More → 0 < pageBy itemSet recordWidth c m room ds .count
-      counts Accepted e more = omega (arith, finished-if (length ds) (fitting recordWidth room ds) more)
-      counts (Refused why) e more = not-accepted why e

@@ -1,3 +1,5 @@
 pub mod Counts
 pub mod Distinct
+pub mod Reading
 pub mod Records
+pub mod Walks

@@ -1,4 +1,4 @@
-// Pages of groups: a group's record, a page with one more of them, and a record looked up in a listing.
+// Pages of groups: a group's record, a page with one more of them, and a record of a listing, as bytes and as sides.
 use pages::Bookmark;
 use pages::Tally;
 ghost use mathlib.Core.Path.{_≡_};
@@ -7,7 +7,7 @@ ghost use Prim.Native.Nat.{_≤_};
 ghost use lib.ListN.{length, drop};
 ghost use lib.Bits.{bitOr};
 ghost use Rattle.group_pages.specs.Filling.{AddsGroups};
-ghost use Rattle.group_pages.specs.Records.{recordWidth, sidesRecord, recordAt};
+ghost use Rattle.group_pages.specs.Records.{recordWidth, sidesRecord, recordAt, sidesAt};
 
 // The bytes of a record.
 pub const RECORD_BYTES: usize = 16;
@@ -24,6 +24,26 @@ pub fn record_at(listing: &[u8], i: u64) -> &[u8]
     }
     let none = 0;
     &listing[none..none]
+}
+
+// The sides of a group, as its record has them.
+pub struct RecordSides {
+    pub left: u64,
+    pub right: u64,
+}
+
+// The sides that record i of a listing has; both empty where record i is not wholly there.
+pub fn sides_at(listing: &[u8], i: u64) -> RecordSides
+    ensures { λ r. ⌜ r ≡ sidesAt (now (listing .entry)) i ⌝ }
+{
+    let bytes = record_at(listing, i);
+    if bytes.len() < RECORD_BYTES {
+        return RecordSides { left: 0, right: 0 };
+    }
+    let left = words::read_word(bytes);
+    let middle: usize = 8;
+    let right = words::read_word(&bytes[middle..]);
+    RecordSides { left, right }
 }
 
 // Writes the record of a group with these sides.

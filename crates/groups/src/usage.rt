@@ -22,5 +22,5 @@ groups --help prints this, groups --version the version.
 }
 
 pub fn print_version() {
-    print(libc::STDOUT_FILENO, b"groups (Mastpickle) 1.0.0\n");
+    print(libc::STDOUT_FILENO, b"groups (Mastpickle) 1.1.0\n");
 }

@@ -90,7 +90,7 @@ module _ (S : SignedGraph) (k : ℕ) (sound-S : sound S ≡ true) (small : k ≤
 
   -- ---- S and S reduced
 
-  one-listing : (g : SignedGraph) → OneOf S k g → listing g k ≡ listing S k
+  pub one-listing : (g : SignedGraph) → OneOf S k g → listing g k ≡ listing S k
   one-listing g (inl e) = ap (λ (x : SignedGraph). listing x k) e
   one-listing g (inr e) =
       ap (λ (x : SignedGraph). listing x k) e ∙ same-listing S (reduced S k .graph) k so (reduce-keeps S k sound-S small .1)

@@ -2,7 +2,7 @@
 ghost use mathlib.Core.Path.{_≡_};
 ghost use Rattle.group_pages.specs.Records.{recordAt};
 ghost use Rattle.c_graphs.specs.Calls.{newReturns, newGraph, checkSoundReturns, checkCallReturns, decodeReturns, decodeGraph, decodeAnswer, encodeReturns, encodeBuffer, encodeAnswer, reduceReturns, reduceGraph};
-ghost use Rattle.c_groups.specs.Calls.{classifyReturns, classifyAnswer, largestReturns, largestAnswer};
+ghost use Rattle.c_groups.specs.Calls.{classifyReturns, classifyAnswer, largestReturns, largestAnswer, countReturns, countCounts};
 ghost use Rattle.c_pages.specs.Answers.{partAt};
 ghost use Rattle.c_pages.specs.Calls.{listPageReturns, listPageBuffer, listPageAnswer, recordAtReturns, recordAtAnswer};
 
@@ -103,4 +103,13 @@ pub extern "C" fn mastpickle_record_at(listing: &[u8], i: u64, answer: &mut [u64
     ensures part { λ r. ⌜ (r ≡ 0 → partAt (now (listing .entry)) (now (answer .exit)) ≡ recordAt (now (listing .entry)) i) ⌝ }
 {
     c_pages::record_at(listing, i, answer)
+}
+
+// Writes for each set how many groups for threshold k contain it.
+#[no_mangle]
+pub extern "C" fn mastpickle_count(graph: &[u64], k: u64, sets: &[u64], counts: &mut [u64]) -> u64
+    ensures number { λ r. ⌜ r ≡ countReturns (now (graph .entry)) k (now (sets .entry)) (now (counts .entry)) ⌝ }
+    ensures words { λ r. ⌜ now (counts .exit) ≡ countCounts (now (graph .entry)) k (now (sets .entry)) (now (counts .entry)) ⌝ }
+{
+    c_groups::count(graph, k, sets, counts)
 }

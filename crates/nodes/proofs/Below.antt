@@ -7,12 +7,11 @@ use mathlib.Core.Logic.{_≢_, _⊎_, inl, inr}
 use mathlib.Core.Bool.{Bool, true, false, _||_}
 use mathlib.Core.List.{List, [], _++_, List·Memᴰ, List·Memᴰ·not-nil, Memᴰ·append-left, Memᴰ·append-right, List·Memᴰ·append-cases}
 use lib.Bits.{bitAnd, bitOr}
-use borrow.Author.Tests.{eqb-true, eq-eqb}
 use Rattle.vertex_set.specs.Lists.{All, Sorted}
-use Rattle.vertex_set.specs.Sets.{mem, single, lowest, others}
+use Rattle.vertex_set.specs.Sets.{mem, within, single, lowest, others}
 use Rattle.vertex_set.proofs.Booleans.{clash, refute, cases, iff, and-intro, and-left, and-right}
 use Rattle.vertex_set.proofs.Lists.{mem-all, selected, select-from, select-keeps, sorted-append, sorted-select, sorted-unique}
-use Rattle.vertex_set.proofs.Membership.{mem-none, mem-pos, union-left, union-right, union-cases, union-other, subset-and, and-subset}
+use Rattle.vertex_set.proofs.Membership.{mem-none, mem-pos, union-left, union-right, union-cases, union-other, subset-within, within-subset}
 use Rattle.vertex_set.proofs.LowestVertex.{lowest-is}
 use Rattle.signed_graph.specs.declared.SignedGraph.{SignedGraph}
 use Rattle.signed_graph.specs.Graphs.{negativeEdge}
@@ -23,7 +22,7 @@ use Rattle.vertex_set.proofs.Order.{from-before, asymmetric}
 use Rattle.nodes.specs.declared.Side.{Side}
 use Rattle.nodes.specs.declared.Node.{Node}
 use Rattle.clique.specs.Listing.{Item, Listed, comesBefore}
-use Rattle.nodes.specs.Nodes.{reach, chosen, undecided, narrowed, sideWith, passedOver, leaveOut, withVertex, Stage, untouched, led, Valid, Between, Below, within, isBetween, isBelow, itemsBelow}
+use Rattle.nodes.specs.Nodes.{reach, chosen, undecided, narrowed, sideWith, passedOver, leaveOut, withVertex, Stage, untouched, led, Valid, Between, Below, isBetween, isBelow, itemsBelow}
 use Rattle.signed_graph.specs.Tables.{positives, negatives}
 use Rattle.signed_graph.specs.Thresholds.{Threshold}
 use Rattle.clique.proofs.Listing.{listed-left, listed-right, listed-cases}
@@ -35,16 +34,15 @@ use Rattle.nodes.proofs.Nodes.{narrowed-in, near-reach, far-reach, out-
 between-test : (side : Side) (s : ℕ) → Between side s → isBetween side s ≡ true
 between-test side s b =
     and-intro (within (side .chosen) s) (within s (reach side))
-    (eq-eqb (bitAnd (side .chosen) s) (side .chosen) (subset-and (side .chosen) s (b .holds)))
-    (eq-eqb (bitAnd s (reach side)) s (subset-and s (reach side) (b .only)))
+    (subset-within (side .chosen) s (b .holds)) (subset-within s (reach side) (b .only))
 
 test-between : (side : Side) (s : ℕ) → isBetween side s ≡ true → Between side s
 test-between side s e =
     let holds : within (side .chosen) s ≡ true = and-left (within (side .chosen) s) (within s (reach side)) e in
     let only : within s (reach side) ≡ true = and-right (within (side .chosen) s) (within s (reach side)) e in
     record {
-      holds = and-subset (side .chosen) s (eqb-true (bitAnd (side .chosen) s) (side .chosen) holds);
-      only = and-subset s (reach side) (eqb-true (bitAnd s (reach side)) s only);
+      holds = within-subset (side .chosen) s holds;
+      only = within-subset s (reach side) only;
     }
 
 below-test : (d : Node) (x : Item) → Below d x → isBelow d x ≡ true

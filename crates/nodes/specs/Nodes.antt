@@ -8,7 +8,7 @@ use lib.Dec.{eqb}
 use lib.ListN.{getD}
 use lib.Bits.{bitAnd, bitOr}
 use Rattle.vertex_set.specs.Lists.{select}
-use Rattle.vertex_set.specs.Sets.{mem, Subset, size, single, others}
+use Rattle.vertex_set.specs.Sets.{mem, Subset, within, size, single, others}
 use Rattle.signed_graph.specs.declared.SignedGraph.{SignedGraph}
 use Rattle.signed_graph.specs.Graphs.{positiveEdge, negativeEdge, vertices}
 use Rattle.clique.specs.Groups.{floor, nonEmpty}
@@ -169,10 +169,7 @@ pub record Same (g : SignedGraph) (k : Threshold) (d e : Node) : Type 0 where
   pub to : (x : Item) → Listed g k x → Below d x → Below e x
   pub from : (x : Item) → Listed g k x → Below e x → Below d x
 
--- a is within b; the test of the groups below; those of a list
-abbrev pub within : ℕ → ℕ → Bool
-within a b = eqb (bitAnd a b) a
-
+-- the test of the groups below; those of a list
 abbrev pub isBetween : Side → ℕ → Bool
 isBetween side s = within (side .chosen) s && within s (reach side)
 

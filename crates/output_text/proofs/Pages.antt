@@ -2,27 +2,22 @@
 -- Assumes nothing.
 use Prim.Native.Nat.{ℕ, zero, suc, _<_}
 use native.Mathlib.Omega.{arith}
-use mathlib.Core.Path.{_≡_, refl, sym, ap, ap₂, _∙_, subst}
+use mathlib.Core.Path.{_≡_, refl, sym, ap, ap₂, _∙_}
 use mathlib.Core.List.{List, [], _∷_, _++_, append-assoc, append-nil}
-use lib.ListN.{length, take, drop, take-append-drop}
-use lib.Seq.{take-all}
+use lib.ListN.{length, take}
 use Rattle.signed_graph.specs.declared.SignedGraph.{SignedGraph}
 use Rattle.signed_graph.specs.declared.Check.{Check}
 use Rattle.signed_graph.specs.declared.Check.the-variants.{Accepted}
 use Rattle.signed_graph.specs.Calls.{checkOf}
-use Rattle.signed_graph.proofs.Soundness.{to-sound}
-use Rattle.signed_graph.proofs.Calls.{accepted-sound}
-use Rattle.clique.specs.Listing.{Item, itemSet, listing}
-use Rattle.clique.proofs.Listing.{listing-sorted}
+use Rattle.clique.specs.Listing.{Item, listing}
 use Rattle.pages.specs.declared.Bookmark.{Bookmark}
 use Rattle.pages.specs.declared.Bookmark.the-variants.{Start}
 use Rattle.pages.specs.declared.End.{End}
 use Rattle.pages.specs.declared.End.the-variants.{Finished, More}
-use Rattle.pages.specs.Pages.{due, pageBy}
-use Rattle.pages.proofs.Pages.{answer-next}
-use Rattle.group_pages.specs.Records.{recordWidth}
+use Rattle.pages.specs.declared.Page.{Page}
+use Rattle.pages.specs.Pages.{due}
 use Rattle.group_pages.specs.Calls.{dueGroups, pageOf}
-use Rattle.group_pages.proofs.Counts.{page-last, page-fits, fewer-due}
+use Rattle.group_pages.proofs.Walks.{page-due, page-last, page-fewer}
 use Rattle.report.specs.Lines.{groupLine}
 use Rattle.output.specs.declared.Answer.{Answer}
 use Rattle.output.specs.declared.Answer.the-variants.{Groups}
@@ -50,36 +45,28 @@ module _ (g : SignedGraph) (k : ℕ) where
       pageText g k m ++ following (pageOf g k m pageRoom .end) (pagesText n (pageOf g k m pageRoom .next))
 
   module _ (a : checkOf g k ≡ Accepted) where
-    next-due : (m : Bookmark) → dueGroups g k (pageOf g k m pageRoom .next) ≡ drop pageRecords (dueGroups g k m)
-    next-due m =
-        subst (λ (c : Check). dueGroups g k (pageBy itemSet recordWidth c m pageRoom (dueGroups g k m) .next) ≡ drop pageRecords (dueGroups g k m))
-        (sym a) (answer-next itemSet recordWidth (listing g k) (listing-sorted g (to-sound g (accepted-sound g k a)) k) m pageRoom)
-
     -- with pages enough, they are the lines of all groups that are due
     pages-due : (n : ℕ) (m : Bookmark) → length (dueGroups g k m) < n → pagesText n m ≡ groupsText (dueGroups g k m)
     unfolding pagesText
     pages-due zero m h = absurd (omega arith)
     pages-due (suc n) m h = go (pageOf g k m pageRoom .end) refl (pages-due n (pageOf g k m pageRoom .next))
       where
-        ds : List Item
-        ds = dueGroups g k m
+        page : Page
+        page = pageOf g k m pageRoom
 
         rest : List Item
-        rest = dueGroups g k (pageOf g k m pageRoom .next)
+        rest = dueGroups g k (page .next)
 
-        text : pageText g k m ≡ groupsText (take pageRecords ds)
-        text = ap (λ (c : Check). textBy c ds) a
+        text : pageText g k m ≡ groupsText (take pageRecords (dueGroups g k m))
+        text = ap (λ (c : Check). textBy c (dueGroups g k m)) a
 
-        go : (e : End) → pageOf g k m pageRoom .end ≡ e
-            → (length rest < n → pagesText n (pageOf g k m pageRoom .next) ≡ groupsText rest)
-            → pageText g k m ++ following e (pagesText n (pageOf g k m pageRoom .next)) ≡ groupsText ds
-        go Finished e ih =
-            append-nil (pageText g k m) ∙ text
-            ∙ ap groupsText (take-all pageRecords ds (omega (arith, page-last g k m pageRoom e, page-fits g k m pageRoom)))
+        go : (e : End) → page .end ≡ e → (length rest < n → pagesText n (page .next) ≡ groupsText rest)
+            → pageText g k m ++ following e (pagesText n (page .next)) ≡ groupsText (dueGroups g k m)
+        go Finished e ih = append-nil (pageText g k m) ∙ text ∙ ap groupsText (page-last g k a m pageRoom page refl e)
         go More e ih =
-            ap₂ (λ (s t : List ℕ). s ++ t) text (ih (omega (arith, fewer-due g k m pageRoom (omega arith) a e)) ∙ ap groupsText (next-due m))
-            ∙ sym (groups-append (take pageRecords ds) (drop pageRecords ds))
-            ∙ ap groupsText (take-append-drop pageRecords ds)
+            ap₂ (λ (s t : List ℕ). s ++ t) text (ih (omega (arith, page-fewer g k a m pageRoom page refl (omega arith) e)))
+            ∙ sym (groups-append (take pageRecords (dueGroups g k m)) rest)
+            ∙ ap groupsText (sym (page-due g k a m pageRoom page refl))
 
     pages-listing : (n : ℕ) → length (listing g k) < n → pagesText n Start ≡ groupsText (listing g k)
     unfolding due

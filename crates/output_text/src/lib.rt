@@ -12,7 +12,7 @@ ghost use Rattle.group_pages.specs.Calls.{pageOf};
 ghost use Rattle.group_pages.specs.Records.{recordWidth};
 ghost use Rattle.report.specs.Lines.{lineText, longestLine};
 ghost use Rattle.output.specs.Output.{closingText};
-ghost use Rattle.output_text.specs.Records.{lineOfRecord, recordsText};
+ghost use Rattle.output_text.specs.Records.{recordsText};
 ghost use Rattle.output_text.specs.PageTexts.{pageRoom, pageText};
 
 // The records for which a page has room.
@@ -42,17 +42,6 @@ fn put_line(line: Line, text: &mut [u8]) -> usize
     report::write(line, text)
 }
 
-// The line of a record.
-fn record_line(bytes: &[u8]) -> Line
-    requires { ⌜ recordWidth ≤ length (now bytes) ⌝ }
-    ensures { λ r. ⌜ r ≡ lineOfRecord (now (bytes .entry)) ⌝ }
-{
-    let left = words::read_word(bytes);
-    let middle: usize = 8;
-    let right = words::read_word(&bytes[middle..]);
-    Line::Group(left, right)
-}
-
 // Writes the lines of records, and returns how many bytes they take.
 fn put_records(records: &[u8], text: &mut [u8]) -> usize
     requires { ⌜ longestLine * (length (now records) / recordWidth) ≤ length (now text) ⌝ }
@@ -63,7 +52,8 @@ fn put_records(records: &[u8], text: &mut [u8]) -> usize
     let mut i: u64 = 0;
     let mut at: usize = 0;
     while i < count {
-        let line = record_line(group_pages::record_at(records, i));
+        let sides = group_pages::sides_at(records, i);
+        let line = Line::Group(sides.left, sides.right);
         let written = put_line(line, &mut text[at..]);
         at += written;
         i += 1;

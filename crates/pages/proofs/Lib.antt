@@ -3,3 +3,4 @@ pub mod Bookmarks
 pub mod Filling
 pub mod PageLists
 pub mod Pages
+pub mod Walks

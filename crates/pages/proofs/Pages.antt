@@ -44,7 +44,7 @@ module _ {A : Type 0} where
     unfolding select
     skips x l e = rw (e, select)
 
-    selects-all : (l : List A) → All (λ x. f x ≡ true) l → select f l ≡ l
+    pub selects-all : (l : List A) → All (λ x. f x ≡ true) l → select f l ≡ l
     unfolding select
     selects-all [] h = refl
     selects-all (x ∷ l) h = selects x l (h .0) ∙ ap {B = List A} (λ r. x ∷ r) (selects-all l (h .1))

@@ -1,6 +1,7 @@
 // The lines of the input. A case is a letter, which names a call, and then bytes, each a space and two digits in hexadecimal.
 // A line that begins with # is no case.
 use crate::calls;
+use crate::counting;
 use crate::edge_lists;
 use crate::listings;
 use pages::Bookmark;
@@ -112,7 +113,7 @@ fn is_proper(letter: u8, count: usize) -> bool {
         b'd' => count <= MOST,
         b'e' | b'l' | b'r' => count == 1,
         b'p' => count == 2,
-        b'g' => count == 5,
+        b'g' | b'n' => count == 5,
         b'c' => between(2, count, 9),
         b'a' | b'i' => between(3, count, 10),
         _ => false,
@@ -140,6 +141,7 @@ fn run_case(letter: u8, x: &[u8; MOST], count: usize, g: SignedGraph) -> SignedG
         b'p' => listings::list(x, Bookmark::Start, g),
         b'a' => listings::list(x, Bookmark::After(word(x, 2)), g),
         b'i' => listings::record(x, g),
+        b'n' => counting::count(x, g),
         _ => g,
     }
 }

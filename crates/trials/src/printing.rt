@@ -1,7 +1,7 @@
 // Answers on standard output.
 ghost use Rattle.io.specs.Counts.{Counts};
 
-// What each byte of a buffer is before it is lent to a call.
+// What each byte of a buffer, and each word of an array for counts, is before it is lent to a call.
 pub const FILL: u8 = 0xaa;
 
 // The most bytes of a buffer.
@@ -55,5 +55,20 @@ fn print_bytes(bytes: &[u8]) {
 pub fn print_buffer(buffer: &[u8]) {
     io::write_all(1, b" [");
     print_bytes(buffer);
+    io::write_all(1, b" ]");
+}
+
+fn print_words(words: &[u64]) {
+    let mut i: usize = 0;
+    while i < words.len() {
+        print_number(words[i]);
+        i += 1;
+    }
+}
+
+// Prints all words of an array for counts.
+pub fn print_counts(counts: &[u64]) {
+    io::write_all(1, b" [");
+    print_words(counts);
     io::write_all(1, b" ]");
 }

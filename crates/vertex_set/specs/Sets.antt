@@ -4,7 +4,7 @@ use mathlib.Core.Bool.{Bool, true, false}
 use mathlib.Core.List.{List, []}
 use Prim.Native.Nat.{ℕ, zero, suc, _+_, _-_, _*_, _/_, _%_, _^_}
 use lib.Dec.{eqb, ltb}
-use lib.Bits.{bitOr}
+use lib.Bits.{bitAnd, bitOr}
 use Rattle.vertex_set.specs.Ranges.{bit, count, seek, gather}
 
 -- vertex p is in the set s
@@ -14,6 +14,10 @@ mem p s = eqb (s / 2 ^ p % 2) 1
 -- every member of a is one of b
 abbrev pub Subset : ℕ → ℕ → Type 0
 Subset a b = (p : ℕ) → mem p a ≡ true → mem p b ≡ true
+
+-- and the test
+abbrev pub within : ℕ → ℕ → Bool
+within a b = eqb (bitAnd a b) a
 
 -- the set of those p below n that pass the test f
 unfoldable pub collect : ℕ → (ℕ → Bool) → ℕ

@@ -297,6 +297,45 @@ fn many_groups(rng: &mut Rng) -> SignedGraph {
     in_parts(n, part, rng.next())
 }
 
+/// A graph with so many groups for threshold 0, as long as 64 vertices are enough: balanced graphs
+/// in parts, with no edge from one to another, and labels in a random order.
+pub fn with_groups(rng: &mut Rng, number: u64) -> SignedGraph {
+    // For each vertex, the number that was open when its graph was made, and its part there.
+    let mut homes: Vec<(u64, usize)> = Vec::new();
+    let mut open = number;
+    while open > 0 {
+        let parts = parts_within(open);
+        for (part, &size) in parts.iter().enumerate() {
+            homes.extend((0..size).map(|_| (open, part)));
+        }
+        open -= parts.iter().product::<u64>();
+    }
+    rng.shuffle(&mut homes);
+    let mut graph = balanced_on(homes.len() as u64, u64::MAX, rng.next());
+    for u in 0..graph.n {
+        for v in u + 1..graph.n {
+            let (one, other) = (homes[u as usize], homes[v as usize]);
+            if one.0 != other.0 || one.1 == other.1 {
+                graph.remove(u, v);
+            }
+        }
+    }
+    graph
+}
+
+/// Parts of two and three with the largest product up to a number, which is not 0; a single one
+/// where that is 1.
+fn parts_within(most: u64) -> Vec<u64> {
+    let twos = |threes: u32| (most / 3u64.pow(threes)).ilog2();
+    let threes = (0..=most.ilog(3))
+        .max_by_key(|&threes| 3u64.pow(threes) << twos(threes))
+        .expect("no threes are tried as well");
+    let mut parts = vec![2; twos(threes) as usize];
+    parts.resize(parts.len() + threes as usize, 3);
+    parts.resize(parts.len().max(1), 1);
+    parts
+}
+
 /// Which vertices are on one side: about half of them, a few or one.
 fn any_side(rng: &mut Rng) -> u64 {
     match rng.below(4) {

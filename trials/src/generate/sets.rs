@@ -1,4 +1,4 @@
-//! Sets, thresholds, bookmarks and buffer lengths.
+//! Sets, thresholds, bookmarks, buffer lengths and numbers of sets.
 
 use super::random::Rng;
 use crate::reference::{split, Bookmark, SignedGraph};
@@ -17,6 +17,16 @@ pub fn threshold(rng: &mut Rng) -> u64 {
 pub fn threshold_near(rng: &mut Rng, sides: (u64, u64)) -> u64 {
     let smaller = sides.0.count_ones().min(sides.1.count_ones());
     u64::from(smaller) + rng.below(2)
+}
+
+/// A threshold; now and then one near the size of the smaller side of a group.
+pub fn threshold_among(rng: &mut Rng, groups: &[(u64, u64)]) -> u64 {
+    if rng.chance(10) && !groups.is_empty() {
+        let sides = rng.pick(groups);
+        threshold_near(rng, sides)
+    } else {
+        threshold(rng)
+    }
 }
 
 /// A threshold over 32.
@@ -107,4 +117,59 @@ pub fn bookmark(rng: &mut Rng, graph: &SignedGraph, groups: &[(u64, u64)]) -> Bo
         10 => rng.next() & rng.next(),
         _ => rng.next(),
     })
+}
+
+/// How many sets a call counts for; most are few, and none, one and those around 256 come up often.
+pub fn number_of_sets(rng: &mut Rng) -> usize {
+    match rng.below(32) {
+        0..=4 => rng.pick(&[0, 1, 255, 256, 257, 300]),
+        5 => rng.length(0, 300),
+        _ => rng.length(2, 12),
+    }
+}
+
+/// So many sets to count for in a graph of n vertices with these groups; some come up again.
+pub fn sets_to_count(rng: &mut Rng, number: usize, n: u64, groups: &[(u64, u64)]) -> Vec<u64> {
+    let mut sets: Vec<u64> = Vec::new();
+    while sets.len() < number {
+        let set = if !sets.is_empty() && rng.chance(10) {
+            rng.pick(&sets)
+        } else {
+            set_to_count(rng, n, groups)
+        };
+        sets.push(set);
+    }
+    sets
+}
+
+/// A group, a part of one, what two share or have together, one with a vertex more, a single
+/// vertex, or any set.
+fn set_to_count(rng: &mut Rng, n: u64, groups: &[(u64, u64)]) -> u64 {
+    let (set, other) = (any_group(rng, groups), any_group(rng, groups));
+    let inside = 1u64 << rng.below(n.max(1));
+    let outside = 1u64 << rng.between(n.min(63), 63);
+    let all = u64::MAX.checked_shr(64 - n as u32).unwrap_or(0);
+    match rng.below(16) {
+        0 | 1 => set,
+        2 | 3 => set & rng.next(),
+        4 | 5 => set & rng.next() & rng.next(),
+        6 => set & other,
+        7 => set & other & rng.next(),
+        8 => set | other,
+        9 => set | inside,
+        10 => set & rng.next() | outside,
+        11 | 12 => inside,
+        13 => rng.pick(&[0, all, u64::MAX, outside]),
+        14 => rng.next() & rng.next() & rng.next() & all,
+        _ => rng.next(),
+    }
+}
+
+/// The set of a group; any set where there is no group.
+fn any_group(rng: &mut Rng, groups: &[(u64, u64)]) -> u64 {
+    if groups.is_empty() {
+        return rng.next();
+    }
+    let (left, right) = rng.pick(groups);
+    left | right
 }

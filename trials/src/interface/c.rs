@@ -60,4 +60,13 @@ extern "C" {
         answer: *mut u64,
         answer_words: usize,
     ) -> u64;
+    pub fn mastpickle_count(
+        graph: *const u64,
+        graph_words: usize,
+        k: u64,
+        sets: *const u64,
+        sets_length: usize,
+        counts: *mut u64,
+        counts_length: usize,
+    ) -> u64;
 }

@@ -1,6 +1,7 @@
 //! A second implementation of the whole product, written for clearness and by other methods than the library's.
 
 mod classify;
+mod counts;
 mod edge_list;
 mod graph;
 mod groups;
@@ -9,6 +10,7 @@ mod program;
 mod reduce;
 
 pub use classify::{classify, Verdict};
+pub use counts::{check_count, count, counts_of};
 pub use edge_list::{decode, encode};
 pub use graph::{check, vertices, SignedGraph};
 pub use groups::{groups, groups_by_cover, groups_by_subsets, left_first, meets, split};

@@ -2,9 +2,9 @@
 
 use super::expect::words;
 use super::tally::{hex, hex_words};
-use crate::generate::{graph, unsound, Rng, UNSOUND_KINDS};
+use crate::generate::{graph, rich_graph, unsound, Rng, UNSOUND_KINDS};
 use crate::interface::{noise, Outcome, GRAPH_WORDS};
-use crate::reference::SignedGraph;
+use crate::reference::{groups, SignedGraph};
 
 /// Mostly sound graphs, and some that are not.
 pub fn any_graph(rng: &mut Rng) -> SignedGraph {
@@ -14,6 +14,21 @@ pub fn any_graph(rng: &mut Rng) -> SignedGraph {
         let kind = rng.below(UNSOUND_KINDS);
         unsound(rng, kind)
     }
+}
+
+/// A graph, often one with many groups, and its groups for threshold 0; none where it is not sound.
+pub fn graph_with_groups(rng: &mut Rng) -> (SignedGraph, Vec<(u64, u64)>) {
+    let graph = if rng.chance(40) {
+        rich_graph(rng)
+    } else {
+        any_graph(rng)
+    };
+    let all = if graph.is_sound() {
+        groups(&graph, 0)
+    } else {
+        Vec::new()
+    };
+    (graph, all)
 }
 
 /// A graph's words; now and then with others behind them, or too few of them.
@@ -66,10 +81,11 @@ pub fn same(
 
 fn text(outcome: &Outcome) -> String {
     format!(
-        "{} graph {} out {} answer {}",
+        "{} graph {} out {} answer {} counts {}",
         outcome.number,
         hex_words(&outcome.graph),
         hex(&outcome.out),
-        hex_words(&outcome.answer)
+        hex_words(&outcome.answer),
+        hex_words(&outcome.counts)
     )
 }

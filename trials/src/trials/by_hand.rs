@@ -97,7 +97,8 @@ fn worked_graphs() -> Result<(), String> {
     if (kept(1), kept(2)) != (Ok(8), Ok(6)) {
         return Err("A is reduced to other edges".to_string());
     }
-    worked_pages(&a)
+    worked_pages(&a)?;
+    worked_counts(&a)
 }
 
 fn worked_pages(a: &SignedGraph) -> Result<(), String> {
@@ -121,6 +122,53 @@ fn worked_pages(a: &SignedGraph) -> Result<(), String> {
     let nothing = list_page(a, 1, Bookmark::After(0), &mut [0; 64]);
     if nothing.count != 0 || !nothing.finished {
         return Err("a group comes after the empty set".to_string());
+    }
+    Ok(())
+}
+
+/// Sets, and in how many groups of A for 1 they lie; these are {0, 1, 2, 3} and {0, 2, 4}.
+const COUNTS: [(u64, u64); 14] = [
+    (0b0, 2),
+    (0b1, 2),
+    (0b10, 1),
+    (0b100, 2),
+    (0b1000, 1),
+    (0b10000, 1),
+    (0b101, 2),
+    (0b1111, 1),
+    (0b10101, 1),
+    (0b10010, 0),
+    (0b101, 2),
+    (0b11111, 0),
+    (0b100001, 0),
+    (u64::MAX, 0),
+];
+
+fn worked_counts(a: &SignedGraph) -> Result<(), String> {
+    let sets = COUNTS.map(|(set, _)| set);
+    let mut counts = [7; 15];
+    let must = [COUNTS.map(|(_, count)| count).as_slice(), &[7]].concat();
+    if count(a, 1, &sets, &mut counts) != Ok(()) || counts != *must {
+        return Err(format!("the counts of A are {counts:?}"));
+    }
+    let mut unsound = a.clone();
+    unsound.negative[0] |= 1;
+    let tried = [
+        (a, 32, 0, 0, Ok(())),
+        (a, 0, 256, 256, Ok(())),
+        (a, 0, 256, 300, Ok(())),
+        (a, 0, 1, 0, Err(13)),
+        (a, 0, 257, 257, Err(14)),
+        (a, 0, 300, 299, Err(13)),
+        (a, 33, 300, 299, Err(11)),
+        (&unsound, 33, 300, 299, Err(10)),
+    ];
+    for (graph, k, sets, places, must) in tried {
+        if count(graph, k, &vec![0; sets], &mut vec![0; places]) != must {
+            return Err(format!(
+                "{sets} sets into {places} for {k} must be {must:?}"
+            ));
+        }
     }
     Ok(())
 }

@@ -248,3 +248,26 @@ pub fn record_at(listing: &[u8], i: u64, answer: &[u64]) -> Outcome {
     outcome.answer = with_start(answer, &[start as u64, part.len() as u64]);
     outcome
 }
+
+/// Counts, given the graph's groups for k where the call is not refused.
+pub fn count(
+    graph: &[u64],
+    k: u64,
+    groups: &[(u64, u64)],
+    sets: &[u64],
+    counts: &[u64],
+) -> Outcome {
+    let mut outcome = Outcome {
+        counts: counts.to_vec(),
+        ..only(0)
+    };
+    if graph.len() < GRAPH_WORDS {
+        outcome.number = SHORT_GRAPH;
+        return outcome;
+    }
+    match reference::check_count(&graph_of(graph), k, sets.len(), counts.len()) {
+        Ok(()) => outcome.counts = with_start(counts, &reference::counts_of(groups, sets)),
+        Err(number) => outcome.number = number,
+    }
+    outcome
+}

@@ -4,11 +4,12 @@
 use super::tally::Tally;
 use std::path::Path;
 
-const NUMBERS: [(&str, u64); 32] = [
+const NUMBERS: [(&str, u64); 34] = [
     ("GRAPH_WORDS", 129),
     ("RECORD_BYTES", 16),
     ("LONGEST_EDGE_LIST", 6051),
-    ("STACK_BYTES", 40_960),
+    ("MOST_SETS", 256),
+    ("STACK_BYTES", 61_440),
     ("NO_OPENING", 1),
     ("TOO_MANY_VERTICES", 2),
     ("UNKNOWN_COMMAND", 3),
@@ -22,6 +23,7 @@ const NUMBERS: [(&str, u64); 32] = [
     ("THRESHOLD_TOO_LARGE", 11),
     ("NO_GROUP", 12),
     ("BUFFER_TOO_SHORT", 13),
+    ("TOO_MANY_SETS", 14),
     ("SHORT_GRAPH", 101),
     ("SHORT_ANSWER", 102),
     ("NO_BOOKMARK", 103),
@@ -46,7 +48,7 @@ const VERSION: &str = "VERSION";
 const COLUMNS: usize = 100;
 
 /// The functions, each with how many arguments it takes.
-pub const FUNCTIONS: [(&str, usize); 10] = [
+pub const FUNCTIONS: [(&str, usize); 11] = [
     ("new", 3),
     ("check_sound", 2),
     ("check_call", 3),
@@ -57,6 +59,7 @@ pub const FUNCTIONS: [(&str, usize); 10] = [
     ("list_page", 9),
     ("largest", 5),
     ("record_at", 5),
+    ("count", 7),
 ];
 
 /// The header.

@@ -1,13 +1,17 @@
-//! The trial of graphs with thousands of groups: the whole listing, in one call and by pages, and the largest group.
+//! The trial of graphs with thousands of groups: the whole listing, in one call and by pages, the
+//! largest group, and counts.
 
 use super::expect::{records, words};
 use super::tally::{each_case, hex_words, Tally};
-use crate::generate::{dense_graph, Rng};
-use crate::interface;
-use crate::reference::{groups, meets};
+use crate::generate::{dense_graph, sets_to_count, Rng};
+use crate::interface::{self, noise};
+use crate::reference::{counts_of, groups, meets};
 
 /// The bytes of a page.
 const PAGE: usize = 1024;
+
+/// The most sets that a call counts for.
+const MOST_SETS: usize = 256;
 
 pub fn run(seed: u64, amount: u64) -> Result<Tally, String> {
     each_case("many_groups", seed, amount, |rng, tally| {
@@ -22,7 +26,8 @@ pub fn run(seed: u64, amount: u64) -> Result<Tally, String> {
     })
 }
 
-/// Holds the listing in one call, the listing by pages of so many bytes and the largest to the groups in listing order.
+/// Holds the listing in one call, the listing by pages of so many bytes, the largest and counts to
+/// the groups in listing order.
 pub fn compare(
     rng: &mut Rng,
     graph: &[u64],
@@ -45,11 +50,27 @@ pub fn compare(
     if found != must.copied().unwrap_or((0, 0)) || (largest.number == 12) != due.is_empty() {
         return Err(format!("the largest is {largest:x?}"));
     }
+    compare_counts(rng, graph, k, due)
+}
+
+/// Holds the counts for the most sets to the groups.
+pub fn compare_counts(
+    rng: &mut Rng,
+    graph: &[u64],
+    k: u64,
+    due: &[(u64, u64)],
+) -> Result<(), String> {
+    let sets = sets_to_count(rng, MOST_SETS, graph[0], due);
+    let counts: Vec<u64> = noise(rng, MOST_SETS);
+    let found = interface::count(rng, graph, k, &sets, &counts)?;
+    if found.number != 0 || found.counts != counts_of(due, &sets) {
+        return Err(format!("the counts for {sets:x?} are {found:x?}"));
+    }
     Ok(())
 }
 
 /// The records of all pages, each into so many bytes, until one is finished.
-fn listed(rng: &mut Rng, graph: &[u64], k: u64, room: usize) -> Result<Vec<u8>, String> {
+pub fn listed(rng: &mut Rng, graph: &[u64], k: u64, room: usize) -> Result<Vec<u8>, String> {
     let mut joined = Vec::new();
     let mut from = (0, 0);
     loop {

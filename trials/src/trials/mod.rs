@@ -16,6 +16,7 @@ mod symbols;
 mod tally;
 mod traps;
 mod usage;
+mod with_counts;
 mod with_graphs;
 mod with_lists;
 mod with_pages;
@@ -40,7 +41,7 @@ const fn trial(
 }
 
 /// All trials; the longest come first, so that two threads share the work evenly.
-pub const TRIALS: [Trial; 23] = [
+pub const TRIALS: [Trial; 25] = [
     trial("program", 6_000, program::run),
     trial("page_lists", 30_000, page_lists::run),
     trial("many_groups", 60, many_groups::run),
@@ -50,10 +51,12 @@ pub const TRIALS: [Trial; 23] = [
     trial("reference", 3_000, reference::run),
     trial("classify", 150_000, with_graphs::classify),
     trial("streams", 1, streams::run),
+    trial("count", 40_000, with_counts::count),
     trial("reduce", 150_000, with_graphs::reduce),
     trial("decode", 150_000, with_lists::decode),
     trial("stack", 3_000, stack::run),
     trial("encode", 60_000, with_lists::encode),
+    trial("count_many", 5, with_counts::count_many),
     trial("round_trip", 60_000, with_lists::round_trip),
     trial("new", 40_000, with_graphs::new),
     trial("check_sound", 100_000, with_graphs::check_sound),

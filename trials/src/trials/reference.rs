@@ -3,7 +3,7 @@
 use super::by_hand;
 use super::expect::words;
 use super::tally::{each_case, hex_words, Tally};
-use crate::generate::{small_graph, Rng};
+use crate::generate::{sets_to_count, small_graph, Rng};
 use crate::reference::*;
 
 pub fn run(seed: u64, amount: u64) -> Result<Tally, String> {
@@ -31,6 +31,10 @@ fn one_graph(rng: &mut Rng, tally: &mut Tally, graph: &SignedGraph) -> Result<()
     if split(graph, set) != split_by_trying(graph, set) {
         return Err(format!("{set:x} has another split"));
     }
+    let sets = sets_to_count(rng, 20, graph.n, &due);
+    if counts_of(&due, &sets) != counts_by_mask(&due, &sets) {
+        return Err(format!("{sets:x?} have other counts for {k}"));
+    }
     for set in 0..1u64 << graph.n.min(8) {
         let verdict = classify(graph, k, set).expect("the graph is sound");
         let listed = due.iter().find(|(left, right)| left | right == set);
@@ -47,6 +51,17 @@ fn one_graph(rng: &mut Rng, tally: &mut Tally, graph: &SignedGraph) -> Result<()
         }
     }
     Ok(())
+}
+
+/// In how many groups each set lies, by one test for each set and group.
+fn counts_by_mask(groups: &[(u64, u64)], sets: &[u64]) -> Vec<u64> {
+    let mut counts = vec![0; sets.len()];
+    for (left, right) in groups {
+        for (count, set) in counts.iter_mut().zip(sets) {
+            *count += u64::from(set & !(left | right) == 0);
+        }
+    }
+    counts
 }
 
 /// The split of a set, found by trying every two sides.

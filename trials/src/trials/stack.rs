@@ -4,8 +4,8 @@ use super::expect::{place, words};
 use super::header;
 use super::tally::{each_case, Tally};
 use crate::generate::{
-    balanced_on, bookmark, buffer_length, dense_graph, graph, moon_moser, rich_graph, scrambled,
-    set_to_classify, threshold, traps, with_density, Rng,
+    balanced_on, bookmark, buffer_length, dense_graph, graph, moon_moser, number_of_sets,
+    rich_graph, scrambled, set_to_classify, threshold, traps, with_density, Rng,
 };
 use crate::interface::{c, noise, OwnStack, GRAPH_WORDS};
 use crate::reference::SignedGraph;
@@ -23,7 +23,9 @@ pub fn run(seed: u64, amount: u64) -> Result<Tally, String> {
     let mut tally = each_case("stack", seed, amount, |rng, tally| {
         let (graph, k) = case(rng);
         let mut arrays = Arrays::new(rng, &graph);
-        for (name, function, arguments) in arrays.calls(rng, &graph, k) {
+        let mut calls = arrays.calls(rng, &graph, k).to_vec();
+        calls.push(arrays.count_call(k));
+        for (name, function, arguments) in calls {
             let used = unsafe { stack.call(function, &arguments) };
             tally.count_number(used.number);
             let bytes = most.entry(name).or_default();
@@ -61,28 +63,56 @@ fn case(rng: &mut Rng) -> (SignedGraph, u64) {
     (graph, k)
 }
 
-/// The arrays that the calls of a case share.
+/// A graph whose groups are few enough to go through them all.
+fn countable(rng: &mut Rng) -> SignedGraph {
+    match rng.below(4) {
+        0 => SignedGraph::new(64),
+        1 => balanced_on(64, u64::MAX, rng.next()),
+        2 => rich_graph(rng),
+        _ => graph(rng),
+    }
+}
+
+/// The arrays of a case; `counted` is the graph in whose groups `sets` are counted.
 struct Arrays {
     list: Vec<u8>,
     graph: Vec<u64>,
     written: Vec<u64>,
     out: Vec<u8>,
     answer: Vec<u64>,
+    counted: Vec<u64>,
+    sets: Vec<u64>,
+    counts: Vec<u64>,
 }
 
 impl Arrays {
     fn new(rng: &mut Rng, graph: &SignedGraph) -> Arrays {
         let length = buffer_length(rng);
+        let sets = number_of_sets(rng);
         Arrays {
             list: scrambled(rng, graph),
             graph: words(graph),
             written: noise(rng, GRAPH_WORDS),
             out: noise(rng, length),
             answer: noise(rng, 4),
+            counted: words(&countable(rng)),
+            sets: noise(rng, sets),
+            counts: noise(rng, sets),
         }
     }
 
-    /// A call of each function.
+    /// A call of count.
+    fn count_call(&mut self, k: u64) -> Call {
+        let counted = lent(&mut self.counted);
+        let (sets, counts) = (lent(&mut self.sets), lent(&mut self.counts));
+        call(
+            "count",
+            c::mastpickle_count as _,
+            &[&counted, &[k], &sets, &counts],
+        )
+    }
+
+    /// A call of each other function.
     fn calls(&mut self, rng: &mut Rng, graph: &SignedGraph, k: u64) -> [Call; 10] {
         let set = set_to_classify(rng, graph);
         let (kind, after) = place(bookmark(rng, graph, &[]));

@@ -46,6 +46,14 @@ impl Tally {
         }
     }
 
+    /// Fails where a thing from `things` was never counted.
+    pub fn each_counted(&self, things: &[&str]) -> Result<(), String> {
+        match things.iter().find(|thing| self.of(thing) == 0) {
+            None => Ok(()),
+            Some(thing) => Err(format!("0 {thing}")),
+        }
+    }
+
     /// The counts as text.
     pub fn notes(&self) -> String {
         let notes: Vec<String> = self

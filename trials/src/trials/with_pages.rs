@@ -1,9 +1,9 @@
 //! Trials of list_page, largest and record_at.
 
-use super::arrays::{any_graph, graph_array, room, same};
+use super::arrays::{any_graph, graph_array, graph_with_groups, room, same};
 use super::expect::{self, graph_of};
 use super::tally::{each_case, hex, hex_words, Tally};
-use crate::generate::{bookmark, buffer_length, rich_graph, threshold, threshold_near, Rng};
+use crate::generate::{bookmark, buffer_length, threshold, threshold_among, Rng};
 use crate::interface::{self, noise, Place};
 use crate::reference::{groups, meets, SignedGraph};
 
@@ -13,16 +13,7 @@ const CALLS: u64 = 4;
 /// Several pages of one graph, each with its own threshold, bookmark and buffer.
 pub fn list_page(seed: u64, amount: u64) -> Result<Tally, String> {
     let mut tally = each_case("list_page", seed, amount / CALLS, |rng, tally| {
-        let graph = if rng.chance(40) {
-            rich_graph(rng)
-        } else {
-            any_graph(rng)
-        };
-        let all = if graph.is_sound() {
-            groups(&graph, 0)
-        } else {
-            Vec::new()
-        };
+        let (graph, all) = graph_with_groups(rng);
         for _ in 0..CALLS {
             one_page(rng, tally, &graph, &all)?;
         }
@@ -39,12 +30,7 @@ fn one_page(
     graph: &SignedGraph,
     all: &[(u64, u64)],
 ) -> Result<(), String> {
-    let k = if rng.chance(10) && !all.is_empty() {
-        let sides = rng.pick(all);
-        threshold_near(rng, sides)
-    } else {
-        threshold(rng)
-    };
+    let k = threshold_among(rng, all);
     let due: Vec<(u64, u64)> = all.iter().copied().filter(|&g| meets(g, k)).collect();
     let from = place(rng, graph, &due);
     let array = graph_array(rng, graph);

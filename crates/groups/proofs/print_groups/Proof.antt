@@ -1,82 +1,91 @@
--- `groups::print_groups` meets its contract. The groups that are counted and those that are due are all groups, and fewer are due
--- from page to page. Assumes nothing.
-use Prim.Native.Nat.{ℕ, _+_, _<_}
+-- `groups::print_groups` meets its contract. It walks the groups and counts them, and fewer are due from page to page. Assumes nothing.
+use Prim.Native.Nat.{ℕ, _+_, _^_, _<_}
 use native.Mathlib.Omega.{arith}
-use mathlib.Core.Path.{_≡_, sym, subst}
+use mathlib.Core.Path.{_≡_}
+use mathlib.Core.List.{foldl}
 use borrow.Author.Needs.{needs}
-use lib.ListN.{length}
+use lib.ListN.{length, take, length-take}
 use Rattle.signed_graph.specs.declared.SignedGraph.{SignedGraph}
 use Rattle.signed_graph.specs.declared.Check.the-variants.{Accepted}
 use Rattle.signed_graph.specs.Calls.{checkOf}
 use Rattle.signed_graph.proofs.Soundness.{to-sound}
 use Rattle.signed_graph.proofs.Calls.{accepted-sound}
 use Rattle.pages.specs.declared.Bookmark.{Bookmark}
-use Rattle.pages.specs.declared.End.the-variants.{Finished, More}
+use Rattle.pages.specs.declared.End.the-variants.{Finished}
 use Rattle.pages.specs.declared.Page.{Page}
-use Rattle.clique.specs.Listing.{listing}
-use Rattle.pages.specs.Pages.{due}
+use Rattle.clique.specs.Listing.{itemSet, listing}
+use Rattle.pages.proofs.Walks.{walked-start, oneMore, fold-count}
 use Rattle.group_pages.specs.Calls.{dueGroups, pageOf}
-use Rattle.group_pages.proofs.Counts.{listing-few, page-rest, page-last, fewer-due}
-use Rattle.output_text.specs.PageTexts.{pageRoom}
+use Rattle.group_pages.proofs.Counts.{listing-few}
+use Rattle.group_pages.proofs.Walks.{WalkedGroups, page-count, page-fewer, groups-next, groups-all}
+use Rattle.output_text.specs.PageTexts.{pageRecords, pageRoom}
 use Rattle.groups.proofs.print_groups.Statement.{statement}
 use Rattle.groups.proofs.print_groups.Tie as tie
 
 abbrev Inv-loop : tie.InvT-loop
-Inv-loop g k from₀ count₀ from count = count + length (dueGroups g k from) ≡ length (listing g k)
+Inv-loop g k from₀ count₀ from count = WalkedGroups g k oneMore 0 from count
 
 abbrev μ-loop : tie.MeasureT-loop
 μ-loop g k from₀ count₀ from count = length (dueGroups g k from)
 
-module _ (g : SignedGraph) (k : ℕ) (from : Bookmark) (page : Page) (e : page ≡ pageOf g k from pageRoom) where
-  rest : page .count + length (dueGroups g k (page .next)) ≡ length (dueGroups g k from)
-  rest =
-      subst (λ (p : Page). p .count + length (dueGroups g k (p .next)) ≡ length (dueGroups g k from)) (sym e) (page-rest g k from pageRoom)
+-- a page is counted
+module _ (g : SignedGraph) (k : ℕ) (accepted : checkOf g k ≡ Accepted) (from : Bookmark) (count : ℕ) (page : Page)
+    (walked : WalkedGroups g k oneMore 0 from count) (is : page ≡ pageOf g k from pageRoom) where
+  counted : count + page .count ≡ foldl oneMore count (take pageRecords (dueGroups g k from))
+  counted =
+      omega (arith, page-count g k accepted from pageRoom page is, fold-count count (take pageRecords (dueGroups g k from)))
 
-  last : page .end ≡ Finished → page .count ≡ length (dueGroups g k from)
-  last =
-      subst (λ (p : Page). p .end ≡ Finished → p .count ≡ length (dueGroups g k from)) (sym e) (page-last g k from pageRoom)
+  few : count + page .count < 2 ^ 64
+  few =
+      omega (
+        arith,
+        page-count g k accepted from pageRoom page is,
+        length-take pageRecords (dueGroups g k from),
+        walked,
+        fold-count count (dueGroups g k from),
+        fold-count 0 (listing g k),
+        listing-few g (to-sound g (accepted-sound g k accepted)) k,
+      )
 
-  fewer : checkOf g k ≡ Accepted → page .end ≡ More → length (dueGroups g k (page .next)) < length (dueGroups g k from)
-  fewer a =
-      subst (λ (p : Page). p .end ≡ More → length (dueGroups g k (p .next)) < length (dueGroups g k from)) (sym e)
-      (fewer-due g k from pageRoom (omega arith) a)
+  next : WalkedGroups g k oneMore 0 (page .next) (count + page .count)
+  next = groups-next g k accepted from pageRoom page is oneMore 0 count (count + page .count) walked counted
 
-loop-holds : tie.Need-loop-holds Inv-loop μ-loop
-unfolding due
-loop-holds c = omega arith
+  last : page .end ≡ Finished → count + page .count ≡ length (listing g k)
+  last e =
+      omega (
+        arith,
+        groups-all g k accepted from pageRoom page is oneMore 0 count (count + page .count) walked counted e,
+        fold-count 0 (listing g k),
+      )
 
 add-count : tie.Need-add-count Inv-loop μ-loop
 add-count c =
     let l = c .before .before .before .before .loop in
     let b = c .before .before .before .before .before in
     let p = c .before .before .before .print-page in
-    omega (
-      arith,
-      l .inv,
-      rest (b .args .g) (b .args .k) (l .from) (p .result .page) (p .ensures),
-      listing-few (b .args .g) (to-sound (b .args .g) (accepted-sound (b .args .g) (b .args .k) (b .pre))) (b .args .k),
-    )
+    omega (arith, few (b .args .g) (b .args .k) (b .pre) (l .from) (l .count) (p .result .page) (l .inv) (p .ensures))
 
 printed : tie.Need-returns-2 Inv-loop μ-loop
 printed c =
     let p = c .before .before .before .before .before in
-    let a = p .before .before .args in
+    let b = p .before .before in
     let l = p .before .loop in
-    omega (arith, l .inv, last (a .g) (a .k) (l .from) (p .print-page .result .page) (p .print-page .ensures) (c .enum-told2 .given .1))
+    last (b .args .g) (b .args .k) (b .pre) (l .from) (l .count) (p .print-page .result .page) (l .inv) (p .print-page .ensures)
+    (c .enum-told2 .given .1)
 
 loop-less : tie.Need-loop-less Inv-loop μ-loop
 loop-less c =
     let p = c .before .before .before .before .before in
     let b = p .before .before in
-    fewer (b .args .g) (b .args .k) (p .before .loop .from) (p .print-page .result .page) (p .print-page .ensures) (b .pre)
-    (c .enum-told .given .1)
+    page-fewer (b .args .g) (b .args .k) (b .pre) (p .before .loop .from) pageRoom (p .print-page .result .page) (p .print-page .ensures)
+    (omega arith) (c .enum-told .given .1)
 
 loop-again : tie.Need-loop-again Inv-loop μ-loop
 loop-again c =
     let p = c .before .before .before .before .before in
-    let a = p .before .before .args in
+    let b = p .before .before in
     let l = p .before .loop in
-    omega (arith, l .inv, rest (a .g) (a .k) (l .from) (p .print-page .result .page) (p .print-page .ensures))
+    next (b .args .g) (b .args .k) (b .pre) (l .from) (l .count) (p .print-page .result .page) (l .inv) (p .print-page .ensures)
 
 pub print-groups-spec : {M : Type 1} → statement M
 print-groups-spec =
@@ -84,7 +93,7 @@ print-groups-spec =
     (tie.spec
     Inv-loop
     μ-loop
-    loop-holds
+    (λ c. walked-start itemSet _ oneMore 0)
     (λ c κs. search needs)
     (λ c. tt)
     add-count

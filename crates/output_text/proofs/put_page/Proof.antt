@@ -1,16 +1,13 @@
 -- `output_text::put_page` meets its contract. The records are within the array, and their lines are the groups'. Assumes nothing.
-use Prim.Native.Nat.{ℕ, _*_, _≤_}
+use Prim.Native.Nat.{ℕ, _*_}
 use native.Mathlib.Omega.{arith}
-use mathlib.Core.Path.{_≡_, refl, sym, ap, ap₂, _∙_, subst}
+use mathlib.Core.Path.{refl, sym, ap, ap₂, _∙_}
 use mathlib.Core.List.{List}
 use borrow.Author.Needs.{needs}
 use lib.ListN.{length, take, replicate, length-take}
 use lib.Seq.{length-take-le}
 use Rattle.vertex_set.specs.Buffers.{overwritten}
-use Rattle.signed_graph.specs.declared.SignedGraph.{SignedGraph}
-use Rattle.pages.specs.declared.Bookmark.{Bookmark}
 use Rattle.pages.specs.declared.Page.{Page}
-use Rattle.group_pages.specs.Calls.{pageOf}
 use Rattle.group_pages.proofs.Counts.{page-fits}
 use Rattle.output_text.specs.Records.{recordsText}
 use Rattle.group_pages.specs.Records.{recordWidth}
@@ -19,26 +16,23 @@ use Rattle.output_text.proofs.Texts.{page-text}
 use Rattle.output_text.proofs.put_page.Statement.{statement}
 use Rattle.output_text.proofs.put_page.Tie as tie
 
-fits : (g : SignedGraph) (k : ℕ) (from : Bookmark) (page : Page) → page ≡ pageOf g k from pageRoom → recordWidth * page .count ≤ pageRoom
-fits g k from page e = subst (λ (p : Page). recordWidth * p .count ≤ pageRoom) (sym e) (page-fits g k from pageRoom)
-
 mul-end : tie.Need-mul-end
 mul-end c =
     let a = c .before .before .before .before .args in
     let p = c .before .before .list-page in
-    omega (arith, fits (a .g) (a .k) (a .from) (p .result) (p .ensures .0))
+    omega (arith, page-fits (a .g) (a .k) (a .from) pageRoom (p .result) (p .ensures .0))
 
 prefix : tie.Need-array-share-prefix-space
 prefix c =
     let a = c .before .before .before .before .args in
     let p = c .before .before .list-page in
-    omega (arith, p .kept .1 .1 .1 .0, fits (a .g) (a .k) (a .from) (p .result) (p .ensures .0))
+    omega (arith, p .kept .1 .1 .1 .0, page-fits (a .g) (a .k) (a .from) pageRoom (p .result) (p .ensures .0))
 
 prefix-length : tie.Need-slice-aggregate-put-records
 prefix-length c =
     let a = c .before .before .before .before .before .args in
     let p = c .before .before .before .list-page in
-    sym (length-take-le _ _ (omega (arith, p .kept .1 .1 .1 .0, fits (a .g) (a .k) (a .from) (p .result) (p .ensures .0))))
+    sym (length-take-le _ _ (omega (arith, p .kept .1 .1 .1 .0, page-fits (a .g) (a .k) (a .from) pageRoom (p .result) (p .ensures .0))))
 
 put-records-requires : tie.Need-put-records-requires
 put-records-requires c κs =
@@ -47,7 +41,7 @@ put-records-requires c κs =
     omega (
       arith,
       length-take (recordWidth * p .result .count) (p .last .1 .1 .1 .0),
-      fits (a .g) (a .k) (a .from) (p .result) (p .ensures .0),
+      page-fits (a .g) (a .k) (a .from) pageRoom (p .result) (p .ensures .0),
     )
 
 abbrev space : List ℕ

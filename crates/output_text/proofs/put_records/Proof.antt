@@ -9,9 +9,9 @@ use Rattle.vertex_set.proofs.Ranges.{gather-end}
 use Rattle.vertex_set.proofs.Buffers.{Laid, laid-start, laid-as, laid-room, laid-long, laid-piece, laid-length, laid-end}
 use Rattle.report.specs.Lines.{lineText, longestLine}
 use Rattle.report.proofs.Words.{line-short}
-use Rattle.output_text.specs.Records.{recordsText}
+use Rattle.output_text.specs.Records.{sidesLine, recordsText}
 use Rattle.group_pages.specs.Records.{recordWidth}
-use Rattle.output_text.proofs.Texts.{lineAt, record-long, records-short, line-next}
+use Rattle.output_text.proofs.Texts.{lineAt, records-short, line-next}
 use Rattle.output_text.proofs.put_records.Statement.{statement}
 use Rattle.output_text.proofs.put_records.Tie as tie
 
@@ -33,21 +33,15 @@ loop-holds c =
           (laid-start (recordsText s) (b .args .text .now) (omega (arith, b .pre, records-short s))),
     )
 
-record-line-requires : tie.Need-record-line-requires Inv-loop μ-loop
-record-line-requires c κs =
-    let s = c .before .before .before .before .before .args .records .now in
-    let i = c .before .before .loop .i in
-    omega (arith, ap length (c .record-at .ensures), record-long s i (omega arith))
-
 put-line-start : tie.Need-sub-put-line Inv-loop μ-loop
-put-line-start c = let l = c .before .before .before .loop in omega (arith, laid-room (l .inv .1), laid-long (l .inv .1))
+put-line-start c = let l = c .before .before .loop in omega (arith, laid-room (l .inv .1), laid-long (l .inv .1))
 
 put-line-requires : tie.Need-put-line-requires Inv-loop μ-loop
 put-line-requires c κs =
-    let l = c .before .before .before .before .loop in
+    let l = c .before .before .before .loop in
     omega (
       arith,
-      c .before .before .before .before .before .before .before .pre,
+      c .before .before .before .before .before .before .pre,
       laid-long (l .inv .1),
       length-take (length (l .text) - l .at) (drop (l .at) (l .text)),
       length-drop (l .at) (l .text),
@@ -58,20 +52,20 @@ add-at c =
     let p = c .before .before in
     omega (
       arith,
-      p .before .before .before .before .before .before .before .before .pre,
+      p .before .before .before .before .before .before .before .pre,
       p .put-line .ensures .0,
-      line-short (p .before .before .record-line .result),
+      line-short (sidesLine (p .before .before .sides-at .result)),
     )
 
 loop-again : tie.Need-loop-again Inv-loop μ-loop
 loop-again c =
     let p = c .before .before in
-    let r = p .before .before .record-line in
-    let l = p .before .before .before .before .before .loop in
-    let s = p .before .before .before .before .before .before .before .before .args .records .now in
-    let n = line-next s _ (r .result) (length s / recordWidth) (l .i) (search needs) (p .before .before .before .record-at .ensures) (r .ensures) in (
-      omega (arith, p .put-line .ensures .0, line-short (r .result)),
-      laid-piece (lineText (r .result)) _ _ (p .put-line .result) (laid-as n (l .inv .1))
+    let r = p .before .before .sides-at in
+    let l = p .before .before .before .before .loop in
+    let s = p .before .before .before .before .before .before .before .args .records .now in
+    let n = line-next s (r .result) (length s / recordWidth) (l .i) (search needs) (r .ensures) in (
+      omega (arith, p .put-line .ensures .0, line-short (sidesLine (r .result))),
+      laid-piece (lineText (sidesLine (r .result))) _ _ (p .put-line .result) (laid-as n (l .inv .1))
           (p .put-line .ensures .0) (p .put-line .ensures .1),
     )
 
@@ -90,7 +84,6 @@ put-records-spec =
     μ-loop
     loop-holds
     (λ c κs. search needs)
-    record-line-requires
     put-line-start
     put-line-start
     (λ c. search needs)

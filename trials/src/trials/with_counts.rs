@@ -1,0 +1,164 @@
+//! Trials of count.
+
+use super::arrays::{graph_array, graph_with_groups, same};
+use super::expect::{self, words};
+use super::many_groups::{compare_counts, listed};
+use super::tally::{each_case, hex_words, Tally};
+use crate::generate::{number_of_sets, sets_to_count, threshold_among, with_groups, Rng};
+use crate::interface::{self, noise, Outcome, GRAPH_WORDS};
+use crate::reference::{groups, meets, SignedGraph};
+
+/// Calls that each graph of count gets.
+const CALLS: u64 = 4;
+
+/// Calls that have to come up: the number that they return, their sets, and how they are noted.
+const NOTED: [(u64, usize, &str); 8] = [
+    (0, 0, "accepted with no set"),
+    (0, 1, "accepted with one set"),
+    (0, 255, "accepted with 255 sets"),
+    (0, 256, "accepted with 256 sets"),
+    (13, 257, "refused 13 with 257 sets"),
+    (13, 300, "refused 13 with 300 sets"),
+    (14, 257, "refused 14 with 257 sets"),
+    (14, 300, "refused 14 with 300 sets"),
+];
+
+/// Counts that have to come up.
+const COUNTS: [&str; 3] = ["counts of 0", "counts of 1", "counts over 1"];
+
+/// Several calls on one graph, each with its own threshold, sets and places for the counts; and
+/// what holds between count and other calls.
+pub fn count(seed: u64, amount: u64) -> Result<Tally, String> {
+    let mut tally = each_case("count", seed, amount / CALLS, |rng, tally| {
+        let (graph, all) = graph_with_groups(rng);
+        for _ in 0..CALLS {
+            one_call(rng, tally, &graph, &all)?;
+        }
+        if graph.is_sound() {
+            tally.count("graphs held to pages and reduction");
+            let k = rng.pick(&[0, 0, 1, 2, 3]);
+            agree(rng, &graph, k, &all)
+                .map_err(|fault| format!("{} k {k:x}: {fault}", hex_words(&words(&graph))))?;
+        }
+        Ok(())
+    })?;
+    tally.each_refused(&[10, 11, 13, 14, 101])?;
+    tally.each_counted(&NOTED.map(|(_, _, note)| note))?;
+    tally.each_counted(&COUNTS)?;
+    tally.cases *= CALLS;
+    Ok(tally)
+}
+
+fn one_call(
+    rng: &mut Rng,
+    tally: &mut Tally,
+    graph: &SignedGraph,
+    all: &[(u64, u64)],
+) -> Result<(), String> {
+    let k = threshold_among(rng, all);
+    let due: Vec<(u64, u64)> = all.iter().copied().filter(|&g| meets(g, k)).collect();
+    let array = graph_array(rng, graph);
+    let number = number_of_sets(rng);
+    let sets = sets_to_count(rng, number, graph.n.min(64), all);
+    let length = places(rng, number);
+    let counts: Vec<u64> = noise(rng, length);
+    let must = expect::count(&array, k, &due, &sets, &counts);
+    note(tally, &must, number);
+    let left = interface::count(rng, &array, k, &sets, &counts);
+    let call = || {
+        let (graph, sets) = (hex_words(&array), hex_words(&sets));
+        format!("count {graph} k {k:x} sets {sets} into {length:x}")
+    };
+    same(call, left, &must)
+}
+
+/// The length of the array for the counts: mostly the number of sets; one less, one more, none and
+/// far more come up often.
+fn places(rng: &mut Rng, sets: usize) -> usize {
+    match rng.below(16) {
+        0 | 1 => sets.saturating_sub(1),
+        2 => sets + 1,
+        3 => 0,
+        4 => rng.length(0, sets),
+        5 => sets + rng.length(2, 40),
+        6 => 300,
+        _ => sets,
+    }
+}
+
+/// Notes what a call with so many sets must leave.
+fn note(tally: &mut Tally, must: &Outcome, sets: usize) {
+    tally.count_number(must.number);
+    let noted = |call: &&(u64, usize, &str)| (call.0, call.1) == (must.number, sets);
+    if let Some((_, _, name)) = NOTED.iter().find(noted) {
+        tally.count(name);
+    }
+    if must.number == 0 {
+        for &count in &must.counts[..sets] {
+            tally.count(COUNTS[count.min(2) as usize]);
+        }
+    }
+}
+
+/// The bytes of a page.
+const PAGE: usize = 1024;
+
+/// The most groups of a graph that are counted for.
+const OWN: usize = 200;
+
+/// Holds counts to other calls of the library: the empty set lies in as many groups as pages list,
+/// each of these in one, and any set in as many in the graph reduced for k.
+fn agree(rng: &mut Rng, graph: &SignedGraph, k: u64, all: &[(u64, u64)]) -> Result<(), String> {
+    let array = words(graph);
+    let listing = listed(rng, &array, k, PAGE)?;
+    let mut own: Vec<u64> = listing.chunks(16).map(set_of).collect();
+    let number = own.len() as u64;
+    rng.shuffle(&mut own);
+    own.truncate(OWN);
+    let others = sets_to_count(rng, 50, graph.n, all);
+    let sets = [vec![0], own.clone(), others].concat();
+    let counts: Vec<u64> = noise(rng, sets.len());
+    let found = interface::count(rng, &array, k, &sets, &counts)?;
+    let known = [vec![number], vec![1; own.len()]].concat();
+    if found.number != 0 || !found.counts.starts_with(&known) {
+        let sets = hex_words(&sets);
+        return Err(format!("{number} groups, and for {sets} {found:x?}"));
+    }
+    let reduced = interface::reduce(rng, &array, k, &[9; GRAPH_WORDS])?;
+    let again = interface::count(rng, &reduced.graph, k, &sets, &counts)?;
+    if again != found {
+        return Err(format!("reduced {again:x?}, and not reduced {found:x?}"));
+    }
+    Ok(())
+}
+
+/// The set of a record.
+fn set_of(record: &[u8]) -> u64 {
+    record
+        .chunks(8)
+        .map(|side| u64::from_le_bytes(side.try_into().expect("a side has eight bytes")))
+        .fold(0, |set, side| set | side)
+}
+
+/// Numbers of groups: around multiples of 1,024, and over 65,535.
+const NUMBERS: [u64; 11] = [
+    1_023, 1_024, 1_025, 2_047, 2_048, 2_049, 3_071, 3_072, 3_073, 65_536, 65_537,
+];
+
+/// Counts for the most sets in graphs whose number of groups is known.
+pub fn count_many(seed: u64, amount: u64) -> Result<Tally, String> {
+    each_case("count_many", seed, amount, |rng, tally| {
+        for number in NUMBERS {
+            let graph = with_groups(rng, number);
+            let all = groups(&graph, 0);
+            let graph = words(&graph);
+            let fault = |fault| format!("{} with {number} groups: {fault}", hex_words(&graph));
+            if all.len() as u64 != number {
+                return Err(fault(format!("it has {}", all.len())));
+            }
+            compare_counts(rng, &graph, 0, &all).map_err(fault)?;
+            tally.add("groups", number);
+        }
+        Ok(())
+    })
+}
