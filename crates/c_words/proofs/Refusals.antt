@@ -60,6 +60,10 @@ returns-0 own number = go (eqb own 0) refl
     go false t e = clash (eqb own 0) (eq-eqb own 0 e) t
 
 -- arrays that are long enough are not refused
+pub graph-taken : (graph : ℕ) → graphWords ≤ graph → graphRefusal graph ≡ 0
+unfolding graphRefusal
+graph-taken graph g = simp (le-ltb graph graphWords g)
+
 pub none-refused : (graph answer needed : ℕ) → graphWords ≤ graph → needed ≤ answer → ownRefusal graph answer needed ≡ 0
 unfolding ownRefusal
 none-refused graph answer needed g a = simp (le-ltb graph graphWords g, le-ltb answer needed a)

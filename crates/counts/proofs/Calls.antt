@@ -34,6 +34,10 @@ module _ (g : SignedGraph) (k : Threshold) (sets buffer : List ℕ) where
   abbrev many : Bool
   many = ltb mostSets (length sets)
 
+  -- the answer's number is the call's
+  pub counting-number : countingNumber (countingOf g k sets buffer) ≡ countsNumber g k sets buffer
+  counting-number = numbers (sound g) (leb k 32) short many
+
   -- all that the contract says of an answer and of the buffer
   abbrev Answers : Counting → List ℕ → Type 0
   Answers r after =
@@ -44,7 +48,7 @@ module _ (g : SignedGraph) (k : Threshold) (sets buffer : List ℕ) where
     e,
     (
       ap (λ (x : Counting). bufferBy x (map (containing g k) sets) buffer) e,
-      ap countingNumber e ∙ numbers (sound g) (leb k 32) short many,
+      ap countingNumber e ∙ counting-number,
     ),
   )
 

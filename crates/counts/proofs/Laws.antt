@@ -11,7 +11,8 @@ use Rattle.vertex_set.specs.Lists.{select, Sorted}
 use Rattle.vertex_set.specs.Sets.{mem}
 use Rattle.vertex_set.specs.Buffers.{overwritten}
 use Rattle.vertex_set.proofs.Booleans.{clash}
-use Rattle.vertex_set.proofs.Lists.{mem-all, selected, select-from, select-keeps, sorted-select}
+use Rattle.vertex_set.proofs.Lists.{mem-all, selected, select-from, select-keeps, sorted-select, sorted-unique}
+use Rattle.vertex_set.proofs.Order.{asymmetric}
 use Rattle.vertex_set.proofs.Membership.{set-ext, none-in, within-subset, subset-within}
 use Rattle.signed_graph.specs.declared.SignedGraph.{SignedGraph}
 use Rattle.signed_graph.specs.Graphs.{vertices}
@@ -20,21 +21,18 @@ use Rattle.signed_graph.proofs.Soundness.{Sound}
 use Rattle.clique.specs.Listing.{Item, Listed, comesBefore, listing}
 use Rattle.clique.proofs.Listing.{listing-sorted, listing-exact}
 use Rattle.pages.proofs.Pages.{selects-all}
-use Rattle.counts.specs.Counts.{Contains, contains, containing}
+use Rattle.counts.specs.Counts.{Contains, contains, IsCount, containing}
 
 -- the test is the words
 pub contains-words : (s : ℕ) (x : Item) → (contains s x ≡ true) ↔ Contains x s
 contains-words s x = (within-subset s (x .vertices), subset-within s (x .vertices))
 
--- what is counted: exactly the groups that contain s, each once
-pub record Counts (g : SignedGraph) (k : Threshold) (s : ℕ) (l : List Item) : Type 0 where
-  pub exact : (x : Item) → List·Memᴰ x l ↔ (Listed g k x × Contains x s)
-  pub once : Sorted comesBefore l
-  pub number : containing g k s ≡ length l
-
 module _ (g : SignedGraph) (so : Sound g) (k : Threshold) (s : ℕ) where
   abbrev kept : List Item
   kept = select (contains s) (listing g k)
+
+  kept-sorted : Sorted comesBefore kept
+  kept-sorted = sorted-select comesBefore (contains s) (listing g k) (listing-sorted g so k)
 
   kept-exact : (x : Item) → List·Memᴰ x kept ↔ (Listed g k x × Contains x s)
   kept-exact x = (
@@ -45,14 +43,21 @@ module _ (g : SignedGraph) (so : Sound g) (k : Threshold) (s : ℕ) where
     (λ h. select-keeps (contains s) x (listing g k) (contains-words s x .1 (h .1)) (listing-exact g so k x .1 (h .0))),
   )
 
-  pub counted : (l : List Item) × Counts g k s l
-  counted = (
-    kept,
-    record {
-      exact = kept-exact;
-      once = sorted-select comesBefore (contains s) (listing g k) (listing-sorted g so k);
-      number = refl;
-    },
+  -- the number computed is the count, and no other number is
+  pub containing-words : (n : ℕ) → (containing g k s ≡ n) ↔ IsCount g k s n
+  containing-words n = (
+    (λ e.
+        record {
+          counted = kept;
+          exact = kept-exact;
+          once = kept-sorted;
+          number = e;
+        }),
+    (λ c.
+        ap length
+        (sorted-unique comesBefore (λ x y. asymmetric (x .vertices) (y .vertices)) kept (c .counted) kept-sorted (c .once)
+        (λ x m. c .exact x .1 (kept-exact x .0 m)) (λ x m. kept-exact x .1 (c .exact x .0 m)))
+        ∙ c .number),
   )
 
   -- no group contains a vertex that the graph does not have

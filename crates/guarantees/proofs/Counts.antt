@@ -13,7 +13,8 @@ use Rattle.signed_graph.specs.Soundness.{sound}
 use Rattle.clique.specs.Listing.{Item}
 use Rattle.counts.specs.declared.Counting.{Counting}
 use Rattle.counts.specs.Counts.{contains}
-use Rattle.counts.specs.Calls.{mostSets, countingBy, bufferBy, countingOf, countsOf}
+use Rattle.counts.specs.Calls.{mostSets, countingBy, bufferBy, countingOf, countsOf, countingNumber, countsNumber}
+use Rattle.counts.proofs.Calls.{counting-number}
 use Rattle.guarantees.specs.Demand.{OneOf}
 use Rattle.guarantees.proofs.Demand.{one-check, one-listing}
 
@@ -22,6 +23,10 @@ module _ (S : SignedGraph) (k : ℕ) (sound-S : sound S ≡ true) (small : k ≤
   one-counting sets buffer =
       ap (λ (c : Check). countingBy c (ltb (length buffer) (length sets)) (ltb mostSets (length sets)))
       (one-check S k sound-S small g one ∙ sym (one-check S k sound-S small S (inl refl)))
+
+  pub one-number : (sets buffer : List ℕ) → countsNumber g k sets buffer ≡ countsNumber S k sets buffer
+  one-number sets buffer =
+      sym (counting-number g k sets buffer) ∙ ap countingNumber (one-counting sets buffer) ∙ counting-number S k sets buffer
 
   pub one-counts : (sets buffer : List ℕ) → countsOf g k sets buffer ≡ countsOf S k sets buffer
   one-counts sets buffer =
