@@ -41,7 +41,7 @@ const fn trial(
 }
 
 /// All trials; the longest come first, so that two threads share the work evenly.
-pub const TRIALS: [Trial; 25] = [
+pub const TRIALS: [Trial; 26] = [
     trial("program", 6_000, program::run),
     trial("page_lists", 30_000, page_lists::run),
     trial("many_groups", 60, many_groups::run),
@@ -57,6 +57,7 @@ pub const TRIALS: [Trial; 25] = [
     trial("stack", 3_000, stack::run),
     trial("encode", 60_000, with_lists::encode),
     trial("count_many", 5, with_counts::count_many),
+    trial("count_lengths", 60, with_counts::count_lengths),
     trial("round_trip", 60_000, with_lists::round_trip),
     trial("new", 40_000, with_graphs::new),
     trial("check_sound", 100_000, with_graphs::check_sound),

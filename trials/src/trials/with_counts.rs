@@ -32,7 +32,9 @@ pub fn count(seed: u64, amount: u64) -> Result<Tally, String> {
     let mut tally = each_case("count", seed, amount / CALLS, |rng, tally| {
         let (graph, all) = graph_with_groups(rng);
         for _ in 0..CALLS {
-            one_call(rng, tally, &graph, &all)?;
+            let number = number_of_sets(rng);
+            let length = places(rng, number);
+            one_call(rng, tally, (&graph, &all), number, length)?;
         }
         if graph.is_sound() {
             tally.count("graphs held to pages and reduction");
@@ -49,18 +51,19 @@ pub fn count(seed: u64, amount: u64) -> Result<Tally, String> {
     Ok(tally)
 }
 
+/// A call on a graph, whose groups for threshold 0 are given, with so many sets and so many places
+/// for the counts.
 fn one_call(
     rng: &mut Rng,
     tally: &mut Tally,
-    graph: &SignedGraph,
-    all: &[(u64, u64)],
+    (graph, all): (&SignedGraph, &[(u64, u64)]),
+    number: usize,
+    length: usize,
 ) -> Result<(), String> {
     let k = threshold_among(rng, all);
     let due: Vec<(u64, u64)> = all.iter().copied().filter(|&g| meets(g, k)).collect();
     let array = graph_array(rng, graph);
-    let number = number_of_sets(rng);
     let sets = sets_to_count(rng, number, graph.n.min(64), all);
-    let length = places(rng, number);
     let counts: Vec<u64> = noise(rng, length);
     let must = expect::count(&array, k, &due, &sets, &counts);
     note(tally, &must, number);
@@ -98,6 +101,30 @@ fn note(tally: &mut Tally, must: &Outcome, sets: usize) {
             tally.count(COUNTS[count.min(2) as usize]);
         }
     }
+}
+
+/// Numbers of sets around none and around the most.
+const AROUND: [usize; 10] = [0, 1, 2, 3, 254, 255, 256, 257, 258, 300];
+
+/// How many places more, or fewer, than sets there are at most.
+const REACH: usize = 3;
+
+/// On each graph all of these numbers of sets, each into every number of places around it.
+pub fn count_lengths(seed: u64, amount: u64) -> Result<Tally, String> {
+    let around = |sets: usize| sets.saturating_sub(REACH)..=sets + REACH;
+    let mut tally = each_case("count_lengths", seed, amount, |rng, tally| {
+        let (graph, all) = graph_with_groups(rng);
+        for number in AROUND {
+            for length in around(number) {
+                one_call(rng, tally, (&graph, &all), number, length)?;
+            }
+        }
+        Ok(())
+    })?;
+    tally.each_refused(&[13, 14])?;
+    tally.each_counted(&NOTED.map(|(_, _, note)| note))?;
+    tally.cases *= AROUND.map(|sets| around(sets).count() as u64).iter().sum::<u64>();
+    Ok(tally)
 }
 
 /// The bytes of a page.
