@@ -1,18 +1,22 @@
 //! Measuring counts: in how many groups sets lie, for one set and for the most sets of a call.
 
 use crate::library::Graph;
-use crate::measure::Bench;
+use crate::measure::{Bench, Purpose};
 use mastpickle_trials::generate::Rng;
 use mastpickle_trials::reference::SignedGraph;
 
 /// The most sets of a call.
 pub const MOST_SETS: usize = 256;
 
-/// The seconds of counting one set, and of counting the most sets.
+/// The seconds of listing in one call, of counting one set, and of counting the most sets.
 pub struct Counting {
+    pub list: f64,
     pub one: f64,
     pub most: f64,
 }
+
+/// How often the three are measured in turn, so that what else the machine does falls on all.
+const TURNS: usize = 4;
 
 pub fn measure(
     bench: &mut Bench,
@@ -22,19 +26,29 @@ pub fn measure(
 ) -> Counting {
     let given = Graph::new(graph);
     let sets = sets(groups);
-    let expected = sets.map(|set| count(groups, set));
-    let mut time = |length: usize| {
-        let (sets, expected) = (&sets[..length], &expected[..length]);
-        let mut counts = vec![u64::MAX; length];
-        let seconds = bench.purpose.time(|| given.count(0, sets, &mut counts));
-        let name = format!("{name}, counting {length}");
-        bench.verdict.compare(&name, &counts[..], expected);
-        seconds
+    let (mut one, mut most) = ([u64::MAX], [u64::MAX; MOST_SETS]);
+    let turns = match bench.purpose {
+        Purpose::Timing => TURNS,
+        Purpose::Comparing => 1,
     };
-    Counting {
-        one: time(1),
-        most: time(MOST_SETS),
+    let mut least = Counting {
+        list: f64::INFINITY,
+        one: f64::INFINITY,
+        most: f64::INFINITY,
+    };
+    for _ in 0..turns {
+        let (list, _) = bench.list(name, &given, 0);
+        least.list = list.min(least.list);
+        let seconds = bench.purpose.time(|| given.count(0, &sets[..1], &mut one));
+        least.one = seconds.min(least.one);
+        let seconds = bench.purpose.time(|| given.count(0, &sets, &mut most));
+        least.most = seconds.min(least.most);
     }
+    let expected = sets.map(|set| count(groups, set));
+    let verdict = &mut bench.verdict;
+    verdict.compare(&format!("{name}, counting 1"), &one[..], &expected[..1]);
+    verdict.compare(&format!("{name}, counting {MOST_SETS}"), most, expected);
+    least
 }
 
 /// The sets that are counted: subsets of groups, and every fourth a random set.

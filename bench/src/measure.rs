@@ -146,16 +146,23 @@ impl Bench {
         }
     }
 
-    /// The library's listing and largest group, and those of the searches in Rust.
-    fn case(&mut self, name: &str, graph: &SignedGraph, k: u64) -> Case {
-        let given = Graph::new(graph);
-        let (out, found) = (&mut self.out, &mut self.found);
+    /// The seconds of the listing in one call, and its groups, whose records are then in `out`.
+    pub fn list(&mut self, name: &str, graph: &Graph, k: u64) -> (f64, usize) {
+        let out = &mut self.out;
         let mut groups = 0;
-        let list = self.purpose.time(|| {
-            let answer = given.list_page(k, START, out);
+        let seconds = self.purpose.time(|| {
+            let answer = graph.list_page(k, START, out);
             assert!(answer.next.is_none(), "{name}: over {MOST_RECORDS} groups");
             groups = answer.records;
         });
+        (seconds, groups)
+    }
+
+    /// The library's listing and largest group, and those of the searches in Rust.
+    fn case(&mut self, name: &str, graph: &SignedGraph, k: u64) -> Case {
+        let given = Graph::new(graph);
+        let (list, groups) = self.list(name, &given, k);
+        let found = &mut self.found;
         let mbcenum = self.purpose.time(|| mbcenum::groups(graph, k, found));
         let mut sides = (0, 0);
         let largest = self.purpose.time(|| sides = given.largest(k));

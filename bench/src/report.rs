@@ -50,10 +50,10 @@ The whole listing by pages as a ratio to one call, and the slowest page in milli
 listing, after random sets, beginnings of groups and single vertices.";
 
 const COUNTING: &str = "\
-Milliseconds; the listing is in one call. The sets are subsets of the graph's groups, from one
-vertex to the whole group, and every fourth is a random set; the 1 set is a subset of a group. A
-test is whether one set lies in one group: its time is what the 255 other sets add, divided by 255
-and by the groups. Counts were compared with the listing.";
+Milliseconds; the listing is in one call, and was measured in turn with the counts. The sets are
+subsets of the graph's groups, from one vertex to the whole group, and every fourth is a random set;
+the 1 set is a subset of a group. A test is whether one set lies in one group: its time is what the
+255 other sets add, divided by 255 and by the groups. Counts were compared with the listing.";
 
 const OTHERS: &str = "\
 Geometric means over the graphs of a family, in milliseconds; groups are those of the first graph.";
@@ -219,7 +219,7 @@ fn counting(results: &Results) -> Table {
         let counting = case.counting.as_ref();
         [
             case.groups.to_string(),
-            milliseconds(case.list),
+            or_missing(counting.map(|counting| counting.list), milliseconds),
             or_missing(counting.map(|counting| counting.one), milliseconds),
             or_missing(counting.map(|counting| counting.most), milliseconds),
             or_missing(counting_one(case), ratio),

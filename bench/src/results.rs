@@ -82,12 +82,14 @@ pub fn slowest_page(case: &Case) -> Option<f64> {
 
 /// How many times as long as the listing counting one set takes.
 pub fn counting_one(case: &Case) -> Option<f64> {
-    Some(case.counting.as_ref()?.one / case.list)
+    let counting = case.counting.as_ref()?;
+    Some(counting.one / counting.list)
 }
 
 /// How many times as long as the listing counting the most sets takes.
 pub fn counting_most(case: &Case) -> Option<f64> {
-    Some(case.counting.as_ref()?.most / case.list)
+    let counting = case.counting.as_ref()?;
+    Some(counting.most / counting.list)
 }
 
 /// The nanoseconds that each further set takes for each group.
