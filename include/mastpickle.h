@@ -5,6 +5,9 @@
  * function here is proved to meet its contract, which stands at the function in
  * crates/mastpickle/src/lib.rt.
  *
+ * A group for threshold k is a balanced set of two vertices or more, with at least k on each side,
+ * that no larger balanced set contains.
+ *
  * Numbers are 64 bits wide. A set of vertices is a number with bit p for vertex p. A graph is an
  * array of MASTPICKLE_GRAPH_WORDS words: n, then for each of 64 vertices the set of its positive
  * partners, then for each the set of its negative partners. An array may be longer than a call
@@ -57,7 +60,7 @@ extern "C" {
 #endif
 
 /* The version of the library and of the program `groups`. */
-#define MASTPICKLE_VERSION "1.1.0"
+#define MASTPICKLE_VERSION "2.0.0"
 
 /* The words of a graph, the bytes of a record, the longest edge list that mastpickle_encode writes,
    the most sets that mastpickle_count takes, and a stack that is enough for every call. */
@@ -100,7 +103,9 @@ extern "C" {
 #define MASTPICKLE_FINISHED 0
 #define MASTPICKLE_MORE 1
 
-/* What mastpickle_classify says of a set, with the words that follow; those not named are 0. */
+/* What mastpickle_classify says of a set, with the words that follow; those not named are 0. The
+   first that applies is said, in this order, but for MASTPICKLE_ALONE, which comes right after
+   MASTPICKLE_VERTEX_OUT_OF_RANGE. */
 #define MASTPICKLE_NO_VERDICT 0          /* the call was refused */
 #define MASTPICKLE_EMPTY 1               /* the set has no vertex */
 #define MASTPICKLE_VERTEX_OUT_OF_RANGE 2 /* its lowest vertex that the graph does not have */
@@ -109,6 +114,7 @@ extern "C" {
 #define MASTPICKLE_TOO_SMALL 5           /* the sizes of its sides, left first; one is under k */
 #define MASTPICKLE_EXTENSIBLE 6          /* the lowest vertex whose addition keeps it balanced */
 #define MASTPICKLE_GROUP 7               /* its left and its right side */
+#define MASTPICKLE_ALONE 8               /* the set has one vertex, so it is no group */
 
 /*
  * Writes the graph of n vertices with no edge; the graph of no vertices where n is over 64.

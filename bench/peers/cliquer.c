@@ -16,7 +16,8 @@ void shim_cliquer_free(void *graph)
     graph_free(graph);
 }
 
-/* The size of the largest clique, with the default options but for the printing of times. */
+/* The size of the largest clique, 0 where that is a vertex alone, with the default options but for
+   the printing of times. */
 uint64_t shim_cliquer_largest(void *graph)
 {
     clique_options options = *clique_default_options;
@@ -24,5 +25,5 @@ uint64_t shim_cliquer_largest(void *graph)
     set_t clique = clique_unweighted_find_single(graph, 0, 0, FALSE, &options);
     uint64_t size = set_size(clique);
     set_free(clique);
-    return size;
+    return size < 2 ? 0 : size;
 }

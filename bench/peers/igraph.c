@@ -30,11 +30,14 @@ void shim_igraph_free(void *graph)
     free(graph);
 }
 
-/* How many maximal cliques there are. */
+/* The fewest vertices of a group, and so of a clique that is looked for. */
+enum { FEWEST = 2 };
+
+/* How many maximal cliques of so many vertices or more there are. */
 uint64_t shim_igraph_count(const void *graph)
 {
     igraph_integer_t count;
-    checked(igraph_maximal_cliques_count(graph, &count, 0, 0));
+    checked(igraph_maximal_cliques_count(graph, &count, FEWEST, 0));
     return count;
 }
 
@@ -54,9 +57,9 @@ static igraph_error_t by_smaller_part(const igraph_vector_int_t *clique, void *a
     return IGRAPH_SUCCESS;
 }
 
-/* Adds to counts[m] the maximal cliques whose smaller part has m vertices. */
+/* Adds to counts[m] those of these cliques whose smaller part has m vertices. */
 void shim_igraph_callback(const void *graph, uint64_t *counts)
 {
     struct sizes sizes = {igraph_vcount(graph) / 2, counts};
-    checked(igraph_maximal_cliques_callback(graph, by_smaller_part, &sizes, 0, 0));
+    checked(igraph_maximal_cliques_callback(graph, by_smaller_part, &sizes, FEWEST, 0));
 }

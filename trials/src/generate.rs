@@ -2,6 +2,7 @@
 
 mod edge_lists;
 mod graphs;
+mod isolated;
 mod random;
 mod sets;
 mod traps;

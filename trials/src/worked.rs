@@ -143,6 +143,7 @@ fn classified(graph: &SignedGraph, k: u64, set: u64) -> String {
         Ok(Verdict::TooSmall(left, right)) => said(0, &[5, left, right, 0]),
         Ok(Verdict::Extensible(v)) => said(0, &[6, v, 0, 0]),
         Ok(Verdict::Group(left, right)) => said(0, &[7, left, right, 0]),
+        Ok(Verdict::Alone) => said(0, &[8, 0, 0, 0]),
     }
 }
 

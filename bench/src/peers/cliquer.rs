@@ -28,7 +28,7 @@ mod installed {
             }))
         }
 
-        /// The size of the largest group for threshold 0.
+        /// The size of the largest group for threshold 0; 0 where there is none.
         pub fn largest(&self) -> u32 {
             unsafe { shim_cliquer_largest(self.0) as u32 }
         }

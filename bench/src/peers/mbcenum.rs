@@ -8,7 +8,8 @@
 //!   every searched vertex that its partners can be skipped, which is right for one vertex of a node alone;
 //! - the pass that chooses the pivot also finds a done vertex beside all open ones, and whether the open ones form a clique,
 //!   which with no vertex open is the test of a result;
-//! - vertices are dropped once more after the edges.
+//! - vertices are dropped once more after the edges;
+//! - a vertex alone is no result.
 
 use super::node::{placed, Candidates, Node};
 use super::order::degeneracy;
@@ -27,7 +28,8 @@ pub fn groups(graph: &SignedGraph, k: u64, found: &mut Vec<(u64, u64)>) {
         first: 0,
         found,
     };
-    for node in Node::roots(&reduced, &order) {
+    // Where nothing is open beside a start vertex, it is alone, or all its groups are found.
+    for node in Node::roots(&reduced, &order).filter(|node| node.all_open() != 0) {
         search.below(node);
     }
 }

@@ -4,6 +4,7 @@
 //! downwards by halves, with edges dropped for each region and, at each node, vertices dropped, colours counted, and vertices
 //! skipped that the pivot dominates. Where the printed text would lose a result or leaves a choice, this does what is right:
 //! - a clique of exactly 2 k vertices counts, so the size to beat begins one below;
+//! - a vertex alone is no result, so for k = 0 the size to beat begins at 1;
 //! - the loop over regions begins with no region before the first (the printed start ends it at once);
 //! - a vertex that has exactly as many partners as the region asks for stays;
 //! - a vertex is dominated by the pivot only on the pivot's side, since an exchange across would change the sizes of the sides;
@@ -25,7 +26,7 @@ pub fn largest(graph: &SignedGraph, k: u64) -> (u64, u64) {
     let mut sizes = Sizes {
         smaller: k,
         larger: positive + 1,
-        most: (2 * k).saturating_sub(1),
+        most: (2 * k).saturating_sub(1).max(1),
     };
     let mut best = [0, 0];
     let mut before = u32::MAX;

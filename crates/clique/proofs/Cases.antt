@@ -1,4 +1,5 @@
--- Document 01's cases T1 to T5 and T7 (their groups) and T8 to T11 (the verdicts, with numbers and values), which compute. Assumes nothing.
+-- Document 01's cases T1 to T5 and T7 (their groups) and T8 to T11 (the verdicts, with numbers and values), which compute; T2 as
+-- document 02 has it. Assumes nothing.
 use mathlib.Core.Path.{_≡_, refl, ap}
 use mathlib.Core.Bool.{true}
 use mathlib.Core.List.{List, [], _∷_}
@@ -10,7 +11,7 @@ use Rattle.signed_graph.specs.Graphs.{edgeless, vertices}
 use Rattle.signed_graph.specs.Samples.{triangle, chain, sampleA}
 use Rattle.signed_graph.specs.Soundness.{sound, hasAllRows, loopless, symmetric, confined, unambiguous}
 use Rattle.clique.specs.declared.Verdict.{Verdict}
-use Rattle.clique.specs.declared.Verdict.the-variants.{Empty, OutOfRange, MissingEdge, Unbalanced, TooSmall, Extensible, Group}
+use Rattle.clique.specs.declared.Verdict.the-variants.{Empty, OutOfRange, Alone, MissingEdge, Unbalanced, TooSmall, Extensible, Group}
 use Rattle.clique.specs.declared.Classified.the-variants.{As}
 use Rattle.clique.specs.Balance.{balanced, allAgree, left, right}
 use Rattle.clique.specs.Groups.{floor, extension, isGroup, groups}
@@ -33,9 +34,8 @@ unfolding sound hasAllRows loopless symmetric confined unambiguous R.all S.mem
 samples-sound = record { sound-triangle = refl; sound-chain = refl; sound-A = refl }
 
 pub record Groups : Type 0 where
-  pub T1 : groups (edgeless 0) 0 ≡ []
-  pub T2-at-0 : groups (edgeless 1) 0 ≡ set (0 ∷ []) ∷ []
-  pub T2-at-1 : groups (edgeless 1) 1 ≡ []
+  pub T1 : (k : ℕ) → groups (edgeless 0) k ≡ []
+  pub T2 : (k : ℕ) → groups (edgeless 1) k ≡ []
   pub T3 : groups triangle 1 ≡ set (0 ∷ 1 ∷ []) ∷ set (0 ∷ 2 ∷ []) ∷ set (1 ∷ 2 ∷ []) ∷ []
   pub T4 : groups chain 0 ≡ set (0 ∷ 1 ∷ []) ∷ set (1 ∷ 2 ∷ []) ∷ []
   pub T5 : groups sampleA 1 ≡ set (0 ∷ 1 ∷ 2 ∷ 3 ∷ []) ∷ set (0 ∷ 2 ∷ 4 ∷ []) ∷ []
@@ -43,7 +43,7 @@ pub record Groups : Type 0 where
 
 pub cases-groups : Groups
 unfolding groups subsets choices select isGroup extension floor balanced allAgree left right vertices edgeless R.all R.count R.seek S.mem S.collect S.size S.lowest S.below
-cases-groups = record { T1 = refl; T2-at-0 = refl; T2-at-1 = refl; T3 = refl; T4 = refl; T5 = refl; T7 = refl }
+cases-groups = record { T1 = λ k. refl; T2 = λ k. refl; T3 = refl; T4 = refl; T5 = refl; T7 = refl }
 
 -- the sides that T3 to T5 print
 pub record Sides : Type 0 where
@@ -62,8 +62,11 @@ pub record Verdicts : Type 0 where
   pub T9 : verdict sampleA 1 (set (0 ∷ 2 ∷ [])) ≡ Extensible 1
   pub T10 : verdict triangle 1 (set (0 ∷ 1 ∷ 2 ∷ [])) ≡ Unbalanced 0 1 2
   pub T11 : verdict sampleA 2 (set (0 ∷ 2 ∷ 4 ∷ [])) ≡ TooSmall 2 1
-  -- vertex 1 could be added, but the sizes come first
-  pub small-first : verdict sampleA 1 (set (0 ∷ [])) ≡ TooSmall 1 0
+  -- one vertex, at every threshold; but out of range comes first
+  pub T2-alone : (k : ℕ) → verdict (edgeless 1) k (set (0 ∷ [])) ≡ Alone
+  pub T2-outside : (k : ℕ) → verdict (edgeless 1) k (set (1 ∷ [])) ≡ OutOfRange 1
+  -- vertex 2 could be added, but the sizes come first
+  pub small-first : verdict sampleA 1 (set (0 ∷ 1 ∷ [])) ≡ TooSmall 2 0
   -- vertex 0 is negative to both others, so its side would be too small, but the triple comes first
   pub unbalanced-first : verdict triangle 2 (set (0 ∷ 1 ∷ 2 ∷ [])) ≡ Unbalanced 0 1 2
   pub empty : verdict sampleA 1 (set []) ≡ Empty
@@ -71,13 +74,15 @@ pub record Verdicts : Type 0 where
   pub T5-group : verdict sampleA 1 (set (0 ∷ 1 ∷ 2 ∷ 3 ∷ [])) ≡ Group (set (0 ∷ 1 ∷ [])) (set (2 ∷ 3 ∷ []))
 
 pub cases-verdicts : Verdicts
-unfolding verdict firstOutside missingFirst missingSecond oddFirst oddSecond oddThird extension floor balanced allAgree left right vertices R.all R.count R.seek S.mem S.collect S.size S.lowest S.below
+unfolding verdict firstOutside missingFirst missingSecond oddFirst oddSecond oddThird extension floor balanced allAgree left right vertices edgeless R.all R.count R.seek S.mem S.collect S.size S.lowest S.below
 cases-verdicts =
     record {
       T8 = refl;
       T9 = refl;
       T10 = refl;
       T11 = refl;
+      T2-alone = λ k. refl;
+      T2-outside = λ k. refl;
       small-first = refl;
       unbalanced-first = refl;
       empty = refl;
@@ -92,6 +97,7 @@ valuesOf v = classifiedValues (As v)
 pub record Values : Type 0 where
   pub empty : valuesOf (verdict sampleA 1 (set [])) ≡ 1 ∷ []
   pub outside : valuesOf (verdict sampleA 1 (set (0 ∷ 60 ∷ 63 ∷ []))) ≡ 2 ∷ 60 ∷ []
+  pub alone : valuesOf (verdict (edgeless 1) 0 (set (0 ∷ []))) ≡ 8 ∷ []
   pub T8 : valuesOf (verdict sampleA 1 (set (0 ∷ 1 ∷ 4 ∷ []))) ≡ 3 ∷ 1 ∷ 4 ∷ []
   pub T10 : valuesOf (verdict triangle 1 (set (0 ∷ 1 ∷ 2 ∷ []))) ≡ 4 ∷ 0 ∷ 1 ∷ 2 ∷ []
   pub T11 : valuesOf (verdict sampleA 2 (set (0 ∷ 2 ∷ 4 ∷ []))) ≡ 5 ∷ 2 ∷ 1 ∷ []
@@ -104,6 +110,7 @@ cases-values =
     record {
       empty = ap valuesOf (c .empty);
       outside = ap valuesOf (c .outside);
+      alone = ap valuesOf (c .T2-alone 0);
       T8 = ap valuesOf (c .T8);
       T10 = ap valuesOf (c .T10);
       T11 = ap valuesOf (c .T11);

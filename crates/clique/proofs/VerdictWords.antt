@@ -1,34 +1,37 @@
 -- The verdict is the first that applies, in document 01's words, and no other is. Assumes nothing.
 use Prim.Native.Nat.{ℕ, zero, suc, _^_, _<_}
-use native.Mathlib.Nat.{pos-of-ne-zero}
+use native.Mathlib.Nat.{lt-of-lt-of-le}
 use native.Mathlib.Omega.{arith}
 use mathlib.Core.Path.{_≡_, refl, sym, ap, ap₂, _∙_, subst}
 use mathlib.Core.Logic.{_≢_, _⊎_, inl, inr, ⊎-elim, _↔_}
 use mathlib.Core.Bool.{true, false, not, _&&_}
 use lib.Dec.{leb, ltb, eqb}
-use borrow.Author.Tests.{ltb-false, leb-true, le-leb, eqb-true, eqb-false, eq-eqb, not-true, not-false}
+use borrow.Author.Tests.{lt-ltb, ltb-false, leb-true, le-leb, eqb-true, eq-eqb, ne-eqb, not-true, not-false}
 use Rattle.vertex_set.specs.Alternatives.{_orElse_}
-use Rattle.vertex_set.specs.Sets.{mem, Subset, insert, size}
+use Rattle.vertex_set.specs.Sets.{mem, Subset, insert, size, lowest}
 use Rattle.vertex_set.proofs.Alternatives.{applies, passes-by, first-of}
 use Rattle.vertex_set.proofs.Booleans.{clash, refute, cases, and-intro, and-left, and-right, or-left, or-right, or-cases}
 use Rattle.vertex_set.proofs.Collections.{insert-in}
-use Rattle.vertex_set.proofs.Membership.{mem-lt, mem-none, set-ext}
+use Rattle.vertex_set.proofs.Membership.{mem-lt, mem-pos, mem-none, set-ext}
+use Rattle.vertex_set.proofs.LowestVertex.{lowest-in}
+use Rattle.vertex_set.proofs.Sizes.{size-pos}
+use Rattle.vertex_set.proofs.SizeBounds.{size-one, one-only}
 use Rattle.signed_graph.specs.declared.SignedGraph.{SignedGraph}
 use Rattle.signed_graph.specs.declared.Refusal.{Refusal}
 use Rattle.signed_graph.specs.Graphs.{edge, vertices}
 use Rattle.signed_graph.specs.Thresholds.{Threshold}
-use Rattle.signed_graph.proofs.Soundness.{Sound}
+use Rattle.signed_graph.proofs.Soundness.{Sound, mem-vertices}
 use Rattle.clique.specs.declared.Verdict.{Verdict}
 use Rattle.clique.specs.declared.Verdict.the-variants as Is
 use Rattle.clique.specs.declared.Classified.the-variants.{As, Refused}
 use Rattle.clique.specs.Balance.{Balanced, balanced, left, right}
 use Rattle.clique.specs.Groups.{floor, Group, extension}
-use Rattle.clique.specs.Stages.{fromEdges, fromTriples, fromSides, fromExtension}
-use Rattle.clique.specs.Verdicts.{verdictNumber, Lowest, FirstPair, FirstTriple, NoVertex, Outside, MissingPair, negativeAmong, UnbalancedTriple, SmallSides, Extends, Applies, FirstVerdict, firstOutside, outOfRange, lacksEdge, missingSecond, missingFirst, oddTriple, oddThird, oddSecond, oddFirst, verdict}
+use Rattle.clique.specs.Stages.{fromAlone, fromEdges, fromTriples, fromSides, fromExtension}
+use Rattle.clique.specs.Verdicts.{verdictPlace, Lowest, FirstPair, FirstTriple, NoVertex, Outside, OneVertex, MissingPair, negativeAmong, UnbalancedTriple, SmallSides, Extends, Applies, FirstVerdict, firstOutside, outOfRange, lacksEdge, missingSecond, missingFirst, oddTriple, oddThird, oddSecond, oddFirst, verdict}
 use Rattle.clique.proofs.Balance.{usable-lt, balanced-words, words-balanced, balanced-sides, is-left, is-right}
 use Rattle.clique.proofs.FirstFound.{Tests, found-lowest, lowest-found, found-pair, pair-found, found-triple, triple-found}
 use Rattle.clique.proofs.Groups.{single-maximal, none-extends}
-use Rattle.clique.proofs.Verdicts.{inside, missing-none, odd-none, complete-lacks, even-balanced, balanced-even, group-verdict}
+use Rattle.clique.proofs.Verdicts.{inside, none-outside, missing-none, odd-none, complete-lacks, even-balanced, balanced-even, group-verdict}
 
 -- ---- what passes a test is what the words say, and the data are those that the tests find
 
@@ -59,6 +62,19 @@ module _ (g : SignedGraph) (s : ℕ) (s64 : s < 2 ^ 64) where
   outside-only = lowest-found (outside-tests g s s64) 64 refl
 
 module _ (g : SignedGraph) (so : Sound g) (s : ℕ) where
+  one-said : s < 2 ^ 64 → Subset s (vertices g) → eqb (size s) 1 ≡ true → OneVertex g s
+  one-said s64 u e =
+      let one : size s ≡ 1 = eqb-true (size s) 1 e in
+      let m : mem (lowest s) s ≡ true = lowest-in s (size-pos s (omega arith)) s64 in
+      record { vertex = lowest s; member = m; only = one-only s s64 one; below = usable-lt g so s u (lowest s) m }
+
+  said-one : OneVertex g s → eqb (size s) 1 ≡ true
+  said-one h = eq-eqb (size s) 1 (size-one s (h .vertex) (lt-of-lt-of-le (h .below) (so .small)) (h .member) (h .only))
+
+  one-usable : OneVertex g s → Subset s (vertices g)
+  one-usable h p m =
+      mem-vertices g (so .small) p ∙ ap (λ (q : ℕ). ltb q (g .n)) (h .only p m) ∙ lt-ltb (h .vertex) (g .n) (h .below)
+
   extends-tests : Tests (Extends g s) 0 (g .n) (λ p. not (mem p s) && balanced g (insert p s))
   extends-tests =
       record {
@@ -158,10 +174,9 @@ module _ (g : SignedGraph) (so : Sound g) (s : ℕ) (s64 : s < 2 ^ 64) (k : Thre
         too-small = not-true (floor k (size l) (size r)) e;
       }
 
-  group-said : eqb s 0 ≡ false → balanced g s ≡ true → not (floor k (size l) (size r)) ≡ false → ltb (extension g s) (g .n) ≡ false → Group g k s
-  group-said some b e none =
+  group-said : balanced g s ≡ true → not (floor k (size l) (size r)) ≡ false → ltb (extension g s) (g .n) ≡ false → Group g k s
+  group-said b e none =
       record {
-        nonempty = pos-of-ne-zero (eqb-false s 0 some);
         balanced = balanced-words g so s b;
         left-side = l;
         right-side = r;
@@ -176,16 +191,17 @@ module _ (g : SignedGraph) (so : Sound g) (s : ℕ) (s64 : s < 2 ^ 64) (k : Thre
       first-of (Applies g k s) (eqb s 0) _ _ (no-vertex s) (λ e1.
       first-of (Applies g k s) (ltb (firstOutside g s) 64) _ _ (outside-said g s s64) (λ e2.
       let u = inside g so s s64 e2 in
-      first-of (Applies g k s) (ltb (missingFirst g s) (g .n)) _ _ (missing-said g so s u) (λ e3.
-      first-of (Applies g k s) (ltb (oddFirst g s) (g .n)) _ _ (unbalanced-said g so s u) (λ e4.
-      let b = even-balanced g so s u (missing-none g s e3) (odd-none g s e4) in
-      first-of (Applies g k s) (not (floor k (size l) (size r))) _ _ (small-said b) (λ e5.
-      first-of (Applies g k s) (ltb (extension g s) (g .n)) _ _ (extension-said g so s) (λ e6.
-      (group-said e1 b e5 e6, balanced-sides g so s b)))))))
+      first-of (Applies g k s) (eqb (size s) 1) _ _ (one-said g so s s64 u) (λ e3.
+      first-of (Applies g k s) (ltb (missingFirst g s) (g .n)) _ _ (missing-said g so s u) (λ e4.
+      first-of (Applies g k s) (ltb (oddFirst g s) (g .n)) _ _ (unbalanced-said g so s u) (λ e5.
+      let b = even-balanced g so s u (missing-none g s e4) (odd-none g s e5) in
+      first-of (Applies g k s) (not (floor k (size l) (size r))) _ _ (small-said b) (λ e6.
+      first-of (Applies g k s) (ltb (extension g s) (g .n)) _ _ (extension-said g so s) (λ e7.
+      (group-said b e6 e7, balanced-sides g so s b))))))))
 
-  -- where no verdict with a number below i applies, the tests of these fail
-  module _ (i : ℕ) (none : (w : Verdict) → verdictNumber w < i → Applies g k s w → ⊥) where
-    skip-empty : 1 < i → verdict g k s ≡ (outOfRange g s orElse fromEdges g k s)
+  -- where no verdict at a place before i applies, the tests of these fail
+  module _ (i : ℕ) (none : (w : Verdict) → verdictPlace w < i → Applies g k s w → ⊥) where
+    skip-empty : 1 < i → verdict g k s ≡ (outOfRange g s orElse fromAlone g k s)
     unfolding verdict
     skip-empty h = passes-by (eqb s 0) _ _ (refute (eqb s 0) (λ t. none Is.Empty h (no-vertex s t)))
 
@@ -195,28 +211,34 @@ module _ (g : SignedGraph) (so : Sound g) (s : ℕ) (s64 : s < 2 ^ 64) (k : Thre
     usable : 2 < i → Subset s (vertices g)
     usable h = inside g so s s64 (no-outside h)
 
-    skip-range : 2 < i → verdict g k s ≡ fromEdges g k s
+    skip-range : 2 < i → verdict g k s ≡ fromAlone g k s
     skip-range h = skip-empty (omega arith) ∙ passes-by (ltb (firstOutside g s) 64) _ _ (no-outside h)
 
-    no-missing : 3 < i → ltb (missingFirst g s) (g .n) ≡ false
+    not-one : 3 < i → eqb (size s) 1 ≡ false
+    not-one h = refute (eqb (size s) 1) (λ t. none Is.Alone h (one-said g so s s64 (usable (omega arith)) t))
+
+    skip-one : 3 < i → verdict g k s ≡ fromEdges g k s
+    skip-one h = skip-range (omega arith) ∙ passes-by (eqb (size s) 1) _ _ (not-one h)
+
+    no-missing : 4 < i → ltb (missingFirst g s) (g .n) ≡ false
     no-missing h =
         refute (ltb (missingFirst g s) (g .n)) (λ t. none (Is.MissingEdge _ _) h (missing-said g so s (usable (omega arith)) t))
 
-    skip-edges : 3 < i → verdict g k s ≡ fromTriples g k s
-    skip-edges h = skip-range (omega arith) ∙ passes-by (ltb (missingFirst g s) (g .n)) _ _ (no-missing h)
+    skip-edges : 4 < i → verdict g k s ≡ fromTriples g k s
+    skip-edges h = skip-one (omega arith) ∙ passes-by (ltb (missingFirst g s) (g .n)) _ _ (no-missing h)
 
-    no-unbalanced : 4 < i → ltb (oddFirst g s) (g .n) ≡ false
+    no-unbalanced : 5 < i → ltb (oddFirst g s) (g .n) ≡ false
     no-unbalanced h =
         refute (ltb (oddFirst g s) (g .n)) (λ t. none (Is.Unbalanced _ _ _) h (unbalanced-said g so s (usable (omega arith)) t))
 
-    skip-triples : 4 < i → verdict g k s ≡ fromSides g k s
+    skip-triples : 5 < i → verdict g k s ≡ fromSides g k s
     skip-triples h = skip-edges (omega arith) ∙ passes-by (ltb (oddFirst g s) (g .n)) _ _ (no-unbalanced h)
 
-    is-balanced : 4 < i → balanced g s ≡ true
+    is-balanced : 5 < i → balanced g s ≡ true
     is-balanced h =
         even-balanced g so s (usable (omega arith)) (missing-none g s (no-missing (omega arith))) (odd-none g s (no-unbalanced h))
 
-    skip-sides : 5 < i → verdict g k s ≡ fromExtension g s
+    skip-sides : 6 < i → verdict g k s ≡ fromExtension g s
     skip-sides h =
         skip-triples (omega arith)
         ∙ passes-by (not (floor k (size l) (size r))) _ _
@@ -228,36 +250,48 @@ module _ (g : SignedGraph) (so : Sound g) (s : ℕ) (s64 : s < 2 ^ 64) (k : Thre
   first-is (Is.OutOfRange p) h =
       let f = outside-only g s s64 p (h .applies) in
       skip-empty 2 (h .first) (omega arith) ∙ applies (ltb (firstOutside g s) 64) _ _ (f .0) ∙ ap Is.OutOfRange (f .1)
+  first-is Is.Alone h = skip-range 3 (h .first) (omega arith) ∙ applies (eqb (size s) 1) _ _ (said-one g so s (h .applies))
   first-is (Is.MissingEdge p q) h =
-      let f = missing-only g so s (usable 3 (h .first) (omega arith)) p q (h .applies) in
-      skip-range 3 (h .first) (omega arith) ∙ applies (ltb (missingFirst g s) (g .n)) _ _ (f .0) ∙ cc (f .1, f .2)
+      let f = missing-only g so s (usable 4 (h .first) (omega arith)) p q (h .applies) in
+      skip-one 4 (h .first) (omega arith) ∙ applies (ltb (missingFirst g s) (g .n)) _ _ (f .0) ∙ cc (f .1, f .2)
   first-is (Is.Unbalanced p q r) h =
-      let f = unbalanced-only g so s (usable 4 (h .first) (omega arith)) p q r (h .applies) in
-      skip-edges 4 (h .first) (omega arith) ∙ applies (ltb (oddFirst g s) (g .n)) _ _ (f .0) ∙ cc (f .1, f .2, f .3)
+      let f = unbalanced-only g so s (usable 5 (h .first) (omega arith)) p q r (h .applies) in
+      skip-edges 5 (h .first) (omega arith) ∙ applies (ltb (oddFirst g s) (g .n)) _ _ (f .0) ∙ cc (f .1, f .2, f .3)
   first-is (Is.TooSmall x y) h =
       let a = h .applies in
       let ex : size l ≡ x = ap size (sym (is-left g so s (a .left-side) (a .right-side) s64 (a .sides))) ∙ sym (a .left-size) in
       let ey : size r ≡ y = ap size (sym (is-right g so s (a .left-side) (a .right-side) s64 (a .sides))) ∙ sym (a .right-size) in
-      skip-triples 5 (h .first) (omega arith)
+      skip-triples 6 (h .first) (omega arith)
       ∙ applies (not (floor k (size l) (size r))) _ _ (ap not (ap₂ (floor k) ex ey ∙ a .too-small)) ∙ ap₂ Is.TooSmall ex ey
   first-is (Is.Extensible p) h =
       let f = extension-only g so s p (h .applies) in
-      skip-sides 6 (h .first) (omega arith) ∙ applies (ltb (extension g s) (g .n)) _ _ (f .0) ∙ ap Is.Extensible (f .1)
+      skip-sides 7 (h .first) (omega arith) ∙ applies (ltb (extension g s) (g .n)) _ _ (f .0) ∙ ap Is.Extensible (f .1)
   first-is (Is.Group x y) h =
       group-verdict g so s s64 k (h .applies .0)
       ∙ ap₂ Is.Group (sym (is-left g so s x y s64 (h .applies .1))) (sym (is-right g so s x y s64 (h .applies .1)))
 
   -- a verdict that applies does not stand before it
-  not-before : (i : ℕ) (w : Verdict) → verdictNumber w < i → verdictNumber w < verdictNumber (verdict g k s) → Applies g k s w → ⊥
+  not-before : (i : ℕ) (w : Verdict) → verdictPlace w < i → verdictPlace w < verdictPlace (verdict g k s) → Applies g k s w → ⊥
   not-before zero w b h a = omega arith
   not-before (suc i) w b h a =
-      omega (arith, ap verdictNumber (first-is w (record { applies = a; first = λ x c. not-before i x (omega arith) (omega arith) })))
+      omega (arith, ap verdictPlace (first-is w (record { applies = a; first = λ x c. not-before i x (omega arith) (omega arith) })))
 
   pub verdict-first : FirstVerdict g k s (verdict g k s)
-  verdict-first = record { applies = verdict-applies; first = λ w h. not-before (verdictNumber (verdict g k s)) w h h }
+  verdict-first = record { applies = verdict-applies; first = λ w h. not-before (verdictPlace (verdict g k s)) w h h }
 
   pub first-verdict : (v : Verdict) → FirstVerdict g k s v → v ≡ verdict g k s
   first-verdict v h = sym (first-is v h)
+
+  -- alone, at every threshold, exactly where the set has one vertex and that is below n
+  pub alone-exact : OneVertex g s ↔ (verdict g k s ≡ Is.Alone)
+  unfolding verdict
+  alone-exact = (
+    λ h.
+        passes-by (eqb s 0) _ _ (ne-eqb s 0 (λ z. omega (arith, mem-pos (h .vertex) s (h .member))))
+        ∙ passes-by (ltb (firstOutside g s) 64) _ _ (none-outside g so s s64 (one-usable g so s h))
+        ∙ applies (eqb (size s) 1) _ _ (said-one g so s h),
+    λ e. subst (Applies g k s) e verdict-applies,
+  )
 
   -- the answer of a call that is accepted
   pub as-first : (x : Verdict) → x ≡ verdict g k s → (v : Verdict) → As x ≡ As v → FirstVerdict g k s v

@@ -20,7 +20,7 @@ use Rattle.clique.specs.Groups.{isGroup, groups}
 use Rattle.vertex_set.specs.Order.{precedes, choices, subsets}
 use Rattle.clique.proofs.Balance.{left-lt, right-lt}
 use Rattle.vertex_set.proofs.Order.{subsets-all}
-use Rattle.clique.proofs.Groups.{group-words}
+use Rattle.clique.proofs.Groups.{group-pos, group-words}
 use Rattle.pages.specs.declared.Bookmark.{Bookmark}
 use Rattle.pages.specs.declared.Bookmark.the-variants.{Start, After}
 use Rattle.pages.specs.declared.Page.{Page}
@@ -70,7 +70,7 @@ listing-few g so k =
     let n = g .n in
     let some : 2 ^ 0 ≤ 2 ^ n = pow-le-pow-right {n = 2} (omega arith) {i = 0} {j = n} (omega arith) in
     let most : 2 ^ n ≤ 2 ^ 64 = pow-le-pow-right {n = 2} (omega arith) {i = n} {j = 64} (so .small) in
-    let none : isGroup g k 0 ≡ false = refute (isGroup g k 0) (λ e. omega (arith, group-words g so k 0 e .nonempty)) in
+    let none : isGroup g k 0 ≡ false = refute (isGroup g k 0) (λ e. omega (arith, group-pos (group-words g so k 0 e))) in
     omega (
       arith,
       length-map (groups g k) (itemOf g),

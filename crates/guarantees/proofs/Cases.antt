@@ -1,5 +1,5 @@
--- Document 01's cases T1 to T12 and its three buffers, by the definitions that the calls answer by, in one theorem.
--- Assumes nothing.
+-- Document 01's cases T1 to T12 and its three buffers, by the definitions that the calls answer by, in one theorem; T2 as
+-- document 02 has it. Assumes nothing.
 use Prim.Native.Nat.{ℕ, _/_, _≤_, min}
 use native.Mathlib.Nat.{min-zero}
 use native.Mathlib.Omega.{arith}
@@ -19,17 +19,16 @@ use Rattle.signed_graph.specs.Samples.{triangle, chain, sampleA}
 use Rattle.signed_graph.specs.Soundness.{sound, hasAllRows, loopless, symmetric, confined, unambiguous}
 use Rattle.signed_graph.specs.Calls.{checkBy, checkOf, checkNumber}
 use Rattle.clique.specs.declared.Classified.the-variants.{As}
-use Rattle.clique.specs.declared.Verdict.the-variants.{MissingEdge, Unbalanced, TooSmall, Extensible}
+use Rattle.clique.specs.declared.Verdict.the-variants.{Alone, MissingEdge, Unbalanced, TooSmall, Extensible}
 use Rattle.clique.specs.Balance.{left, right}
-use Rattle.clique.specs.Groups.{isGroup, groups}
-use Rattle.vertex_set.specs.Order.{difference, precedes, choices, subsets}
+use Rattle.vertex_set.specs.Order.{difference, precedes}
 use Rattle.clique.specs.Verdicts as verdicts
 use Rattle.clique.specs.Verdicts.{classified}
 use Rattle.clique.proofs.Cases.{set, samples-sound, cases-groups, cases-verdicts}
 use Rattle.reduction.specs.Reductions.{reduced}
 use Rattle.reduction.proofs.Cases as reduction
 use Rattle.edge_list.specs.Decoding.{accepted, decoded}
-use Rattle.edge_list.proofs.Cases.{listA, turnedA, listT3, listT4, decodes}
+use Rattle.edge_list.proofs.Cases.{listA, turnedA, listT2, listT3, listT4, decodes}
 use Rattle.canonical.specs.Canonical.{canonical}
 use Rattle.canonical.proofs.Cases.{writes-A}
 use Rattle.pages.specs.declared.Bookmark.the-variants.{Start, After}
@@ -43,7 +42,7 @@ use Rattle.pages.specs.Pages.{due, nextMark, records, answer, filled, pageBy, b
 use Rattle.group_pages.specs.Calls.{dueGroups, pageOf, pageBytes}
 use Rattle.largest.specs.Largest.{largestOf, largestGroupBy, largestGroup}
 use Rattle.output.specs.Output.{printed}
-use Rattle.output.proofs.Cases.{linesA, cases-outputs}
+use Rattle.output.proofs.Cases.{linesA, linesNone, cases-outputs}
 
 -- a group by its left and its right vertices
 abbrev group : List ℕ → List ℕ → Item
@@ -60,9 +59,13 @@ pub record Cases : Type 0 where
   pub T1-12 : (k : ℕ) → k ≤ 32 → checkNumber (largestGroup (edgeless 0) k .outcome) ≡ 12
   pub T1-page : (k : ℕ) → k ≤ 32 → (room : ℕ)
       → pageOf (edgeless 0) k Start room ≡ record { outcome = Accepted; count = 0; next = Start; end = Finished }
-  -- one vertex: `0 |` for k = 0, nothing for k = 1
-  pub T2-at-0 : listing (edgeless 1) 0 ≡ group (0 ∷ []) [] ∷ []
-  pub T2-at-1 : listing (edgeless 1) 1 ≡ []
+  -- one vertex: no group for any k, 0 among them, the largest call returns 12, the verdict is alone, and no line has the vertex
+  pub T2-list : decoded listT2 ≡ accepted (edgeless 1)
+  pub T2 : (k : ℕ) → listing (edgeless 1) k ≡ []
+  pub T2-largest : (k : ℕ) → k ≤ 32 → largestGroup (edgeless 1) k ≡ record { outcome = Refused NoGroup; left = 0; right = 0 }
+  pub T2-12 : (k : ℕ) → k ≤ 32 → checkNumber (largestGroup (edgeless 1) k .outcome) ≡ 12
+  pub T2-alone : (k : ℕ) → k ≤ 32 → classified (edgeless 1) k (set (0 ∷ [])) ≡ As Alone
+  pub T2-printed : printed (0 ∷ listT2) ≡ linesNone
   -- three vertices, all edges negative: each two of them
   pub T3-list : decoded listT3 ≡ accepted triangle
   pub T3 : listing triangle 1 ≡ group (0 ∷ []) (1 ∷ []) ∷ group (0 ∷ []) (2 ∷ []) ∷ group (1 ∷ []) (2 ∷ []) ∷ []
@@ -107,11 +110,19 @@ sound-0 : sound (edgeless 0) ≡ true
 unfolding edgeless sound hasAllRows loopless symmetric confined unambiguous R.all S.mem
 sound-0 = refl
 
+sound-1 : sound (edgeless 1) ≡ true
+unfolding edgeless sound hasAllRows loopless symmetric confined unambiguous R.all S.mem
+sound-1 = refl
+
 -- ---- their listings
 
 at-T1 : (k : ℕ) → listing (edgeless 0) k ≡ []
-unfolding listing groups subsets choices select isGroup edgeless
-at-T1 k = refl
+unfolding listing
+at-T1 k = ap (map (itemOf (edgeless 0))) (cases-groups .T1 k)
+
+at-T2 : (k : ℕ) → listing (edgeless 1) k ≡ []
+unfolding listing
+at-T2 k = ap (map (itemOf (edgeless 1))) (cases-groups .T2 k)
 
 at-T5 : listing sampleA 1 ≡ group (0 ∷ 1 ∷ []) (2 ∷ 3 ∷ []) ∷ group (0 ∷ 4 ∷ []) (2 ∷ []) ∷ []
 unfolding listing left right R.seek S.mem S.collect S.lowest
@@ -119,9 +130,16 @@ at-T5 = ap (map (itemOf sampleA)) (cases-groups .T5)
 
 -- ---- the calls on them
 
-at-T1-largest : (k : ℕ) → k ≤ 32 → largestGroup (edgeless 0) k ≡ record { outcome = Refused NoGroup; left = 0; right = 0 }
+none-largest : (g : SignedGraph) (k : ℕ) → sound g ≡ true → listing g k ≡ [] → k ≤ 32
+    → largestGroup g k ≡ record { outcome = Refused NoGroup; left = 0; right = 0 }
 unfolding largestOf
-at-T1-largest k h = ap₂ (λ (c : Check) (l : List Item). largestGroupBy c (largestOf l)) (check-of (edgeless 0) k sound-0 h) (at-T1 k)
+none-largest g k e none h = ap₂ (λ (c : Check) (l : List Item). largestGroupBy c (largestOf l)) (check-of g k e h) none
+
+at-T1-largest : (k : ℕ) → k ≤ 32 → largestGroup (edgeless 0) k ≡ record { outcome = Refused NoGroup; left = 0; right = 0 }
+at-T1-largest k = none-largest (edgeless 0) k sound-0 (at-T1 k)
+
+at-T2-largest : (k : ℕ) → k ≤ 32 → largestGroup (edgeless 1) k ≡ record { outcome = Refused NoGroup; left = 0; right = 0 }
+at-T2-largest k = none-largest (edgeless 1) k sound-1 (at-T2 k)
 
 at-T1-page : (k : ℕ) → k ≤ 32 → (room : ℕ)
     → pageOf (edgeless 0) k Start room ≡ record { outcome = Accepted; count = 0; next = Start; end = Finished }
@@ -168,8 +186,12 @@ cases =
       T1-largest = at-T1-largest;
       T1-12 = λ k h. ap (λ (r : LargestGroup). checkNumber (r .outcome)) (at-T1-largest k h);
       T1-page = at-T1-page;
-      T2-at-0 = ap (map (itemOf (edgeless 1))) (cases-groups .T2-at-0);
-      T2-at-1 = ap (map (itemOf (edgeless 1))) (cases-groups .T2-at-1);
+      T2-list = decodes .T2;
+      T2 = at-T2;
+      T2-largest = at-T2-largest;
+      T2-12 = λ k h. ap (λ (r : LargestGroup). checkNumber (r .outcome)) (at-T2-largest k h);
+      T2-alone = λ k h. ap₂ verdicts.classifiedBy (check-of (edgeless 1) k sound-1 h) (cases-verdicts .T2-alone k);
+      T2-printed = cases-outputs .T2;
       T3-list = decodes .T3;
       T3 = ap (map (itemOf triangle)) (cases-groups .T3);
       T4-list = decodes .T4;

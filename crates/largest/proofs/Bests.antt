@@ -1,7 +1,6 @@
 -- The largest group, found by keeping the largest so far. Assumes nothing.
-use Prim.Native.Nat.{ℕ, _^_, _≤_, _<_}
+use Prim.Native.Nat.{ℕ, _≤_, _<_}
 use native.Mathlib.Omega.{arith}
-use native.Mathlib.Decide.{ℕ-discrete}
 use mathlib.Core.Path.{_≡_, refl, sym, ap, _∙_, subst}
 use mathlib.Core.Bool.{Bool, true, false}
 use mathlib.Core.List.{List, [], _∷_, _++_}
@@ -12,13 +11,12 @@ use borrow.Author.Tests.{ltb-true, ltb-false, lt-ltb, le-ltb}
 use Rattle.vertex_set.specs.Lists.{All}
 use Rattle.vertex_set.specs.Sets.{size, lowest}
 use Rattle.vertex_set.proofs.Lists.{mem-all}
-use Rattle.vertex_set.proofs.Sizes.{size-none}
 use Rattle.signed_graph.specs.declared.SignedGraph.{SignedGraph}
-use Rattle.signed_graph.specs.Graphs.{vertices, withTables}
+use Rattle.signed_graph.specs.Graphs.{withTables}
 use Rattle.signed_graph.specs.Soundness.{sound}
 use Rattle.signed_graph.specs.Calls.{checkBy, checkNumber}
 use Rattle.signed_graph.proofs.Soundness.{to-sound}
-use Rattle.clique.proofs.Balance.{usable-64}
+use Rattle.clique.proofs.Groups.{group-two}
 use Rattle.pages.specs.declared.Bookmark.the-variants.{Start}
 use Rattle.signed_graph.specs.declared.Check.the-variants.{Accepted, Refused}
 use Rattle.signed_graph.specs.declared.Refusal.the-variants.{NoGroup}
@@ -28,7 +26,7 @@ use Rattle.clique.specs.Listing.{Item, listing, sizeOf}
 use Rattle.pages.specs.Pages.{due}
 use Rattle.group_pages.specs.Calls.{dueGroups}
 use Rattle.largest.specs.Largest.{larger, largestOf, largestOrNone, largestGroupBy, largestGroup, largestNumberBy, largestNumber}
-use Rattle.nodes.specs.Nodes.{chosen, undecided, rootOf, putIn, leaveOut, withVertex, Same, leafItem, groupAt}
+use Rattle.nodes.specs.Nodes.{chosen, undecided, putIn, leaveOut, withVertex, Root, Same, leafItem, groupAt}
 use Rattle.signed_graph.specs.Tables.{ForSound}
 use Rattle.signed_graph.specs.Thresholds.{Threshold}
 use Rattle.nodes.specs.Below.{dueBelow, leafItems}
@@ -39,7 +37,6 @@ use Rattle.clique.proofs.Listing.{listing-sorted, listing-exact}
 use Rattle.largest.proofs.LargestOf.{largest-found}
 use Rattle.nodes.proofs.Below.{of-below}
 use Rattle.nodes.proofs.Nodes.{undecided-usable, same-self}
-use Rattle.nodes.proofs.Leaves.{root-valid}
 use Rattle.largest.proofs.SizesBelow.{none-larger-below}
 use Rattle.nodes.proofs.DueGroups.{leaf-there, leaf-other, due-listed, none-due, leaf-due, step-in, step-out, step-due, all-due}
 
@@ -155,33 +152,27 @@ module _ (table positive negative : List ℕ) (k : Threshold) (d : Node) (b : Be
 -- ---- the root
 
 abbrev nothing : Best
-nothing = record { size = 0; left = 0; right = 0 }
+nothing = record { size = 1; left = 0; right = 0 }
 
 module _ (g : SignedGraph) (k : Threshold) (so : sound g ≡ true) where
-  -- no group is empty
-  some-size : (y : Item) → largestOf (listing g k) ≡ some y → 0 < sizeOf y
+  some-size : (y : Item) → largestOf (listing g k) ≡ some y → 1 < sizeOf y
   some-size y e =
       let gs = to-sound g so in
       let lx = listing-exact g gs k y .0 (largest-found (listing g k) (listing-sorted g gs k) y e .listed) in
-      go (ℕ-discrete (sizeOf y) 0) (usable-64 g gs (y .vertices) (lx .group .balanced .usable)) (lx .group .nonempty)
-    where
-      go : Dec (sizeOf y ≡ 0) → y .vertices < 2 ^ 64 → 0 < y .vertices → 0 < sizeOf y
-      go (yes z) fits pos = absurd (let n : y .vertices ≡ 0 = size-none (y .vertices) fits z in omega arith)
-      go (no z) fits pos = omega arith
+      omega (arith, group-two (lx .group))
 
-  module _ (all : ℕ) (table : List ℕ) (best : Best) (is-all : all ≡ vertices g) (bounds : SizeTable (g .n) (g .positive) (g .negative) table)
-      (went : Finds table (g .positive) (g .negative) k (rootOf all) nothing best) where
+  module _ (d : Node) (table : List ℕ) (best : Best) (root : Root g d)
+      (bounds : SizeTable (g .n) (g .positive) (g .negative) table) (went : Finds table (g .positive) (g .negative) k d nothing best) where
     best-is : best ≡ against nothing (largestOf (listing g k))
     unfolding due
     best-is =
-        subst (λ (x : ℕ). Finds table (g .positive) (g .negative) k (rootOf x) nothing best) is-all went
-        g so (root-valid g) (bounds g so refl)
-        ∙ ap (bestOf nothing) (all-due g (to-sound g so) k Start) ∙ best-largest nothing (listing g k)
+        went g so (root .valid) (bounds g so refl)
+        ∙ ap (bestOf nothing) (all-due g (to-sound g so) k Start d root) ∙ best-largest nothing (listing g k)
 
     some-best : (y : Item) → largestOf (listing g k) ≡ some y → best ≡ bestItem y
     some-best y e = best-is ∙ ap (against nothing) e ∙ better-so nothing y (some-size y e)
 
-    pub largest-none : best .size ≡ 0 → record { outcome = Refused NoGroup; left = 0; right = 0 } ≡ largestOrNone (largestOf (listing g k))
+    pub largest-none : best .size ≡ 1 → record { outcome = Refused NoGroup; left = 0; right = 0 } ≡ largestOrNone (largestOf (listing g k))
     largest-none z = go (largestOf (listing g k)) refl
       where
         go : (o : Option Item) → largestOf (listing g k) ≡ o → record { outcome = Refused NoGroup; left = 0; right = 0 } ≡ largestOrNone o
@@ -189,7 +180,7 @@ module _ (g : SignedGraph) (k : Threshold) (so : sound g ≡ true) where
         go (some y) e =
             absurd (let s : best .size ≡ sizeOf y = ap (λ (x : Best). x .size) (some-best y e) in omega (arith, some-size y e))
 
-    pub largest-some : (best .size ≡ 0 → ⊥)
+    pub largest-some : (best .size ≡ 1 → ⊥)
         → record { outcome = Accepted; left = best .left; right = best .right } ≡ largestOrNone (largestOf (listing g k))
     largest-some z = go (largestOf (listing g k)) refl
       where

@@ -27,7 +27,7 @@ pub struct LargestGroup {
     pub right: u64,
 }
 
-// The largest group met so far; of size 0 where none was.
+// The largest group met so far; of size 1 where none was, since every group is larger.
 struct Best {
     pub size: u64,
     pub left: u64,
@@ -251,19 +251,20 @@ fn largest_sound(g: SignedGraph, k: u64) -> LargestGroup
     ensures { λ r. ⌜ r ≡ largestOrNone (largestOf (listing g k)) ⌝ }
 {
     let none = Best {
-        size: 0,
+        size: 1,
         left: 0,
         right: 0,
     };
     let all = signed_graph::vertices(g);
+    let root = nodes::root(all, &g.positive, &g.negative);
     let table = bounds::size_table(g.n, &g.positive, &g.negative);
     let hunt = largest_below(
-        0,
-        all,
-        0,
-        0,
-        all,
-        0,
+        root.left.chosen,
+        root.left.candidates,
+        root.left.excluded,
+        root.right.chosen,
+        root.right.candidates,
+        root.right.excluded,
         k,
         &table,
         &g.positive,
@@ -272,7 +273,7 @@ fn largest_sound(g: SignedGraph, k: u64) -> LargestGroup
         0,
     );
     let best = hunt.best;
-    if best.size == 0 {
+    if best.size == 1 {
         return LargestGroup {
             outcome: Check::Refused(Refusal::NoGroup),
             left: 0,

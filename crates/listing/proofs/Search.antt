@@ -7,7 +7,6 @@ use mathlib.Core.List.{List, [], _∷_}
 use lib.ListN.{getD}
 use Rattle.vertex_set.specs.Sets.{lowest}
 use Rattle.signed_graph.specs.declared.SignedGraph.{SignedGraph}
-use Rattle.signed_graph.specs.Graphs.{vertices}
 use Rattle.signed_graph.specs.Soundness.{sound}
 use Rattle.signed_graph.proofs.Soundness.{to-sound}
 use Rattle.signed_graph.specs.Thresholds.{Threshold}
@@ -23,13 +22,12 @@ use Rattle.pages.specs.Filling.{Past, markAfter, pageAt}
 use Rattle.group_pages.specs.Filling.{HoldsGroups, AddsGroups}
 use Rattle.group_pages.specs.Records.{recordWidth, recordOf}
 use Rattle.group_pages.proofs.Records.{record-wide}
-use Rattle.nodes.specs.Nodes.{chosen, undecided, rootOf, putIn, leaveOut, leafItem, groupAt}
+use Rattle.nodes.specs.Nodes.{chosen, undecided, putIn, leaveOut, Root, leafItem, groupAt}
 use Rattle.propagation.specs.Propagation.{Advances}
 use Rattle.look_ahead.specs.LookAhead.{FindsBarren}
 use Rattle.nodes.specs.Below.{leafItems}
 use Rattle.listing.specs.Lists.{Lists}
 use Rattle.pages.proofs.Filling.{holds-none, adds-none, adds-full, adds-as, adds-both}
-use Rattle.nodes.proofs.Leaves.{root-valid}
 use Rattle.nodes.proofs.DueGroups.{leaf-there, leaf-other, leaf-late, none-due, past-due, leaf-due, step-in, step-out, step-due, all-due}
 
 -- the same page after so many nodes in vain
@@ -114,13 +112,12 @@ module _ (positive negative : List ℕ) (k : Threshold) (from : Bookmark) (d : N
 abbrev emptyTally : Tally
 emptyTally = record { count = 0; last = 0; more = false; idle = 0 }
 
-pub lists-all : (g : SignedGraph) (k : Threshold) (from : Bookmark) (buffer : List ℕ) (all : ℕ) (after : Tally) (exit : List ℕ) (page : Page)
-    → sound g ≡ true → all ≡ vertices g
-    → Lists (g .positive) (g .negative) k from (rootOf all) emptyTally buffer after exit → page ≡ pageAt from after
+pub lists-all : (g : SignedGraph) (k : Threshold) (from : Bookmark) (buffer : List ℕ) (d : Node) (after : Tally) (exit : List ℕ) (page : Page)
+    → sound g ≡ true → Root g d
+    → Lists (g .positive) (g .negative) k from d emptyTally buffer after exit → page ≡ pageAt from after
     → HoldsGroups from buffer (dueGroups g k from) page exit
 unfolding markAfter
-lists-all g k from buffer all after exit page so is-all went is-page =
+lists-all g k from buffer d after exit page so root went is-page =
     subst (λ (p : Page). HoldsGroups from buffer (dueGroups g k from) p exit) (sym is-page)
-    (subst (λ (x : List Item). HoldsGroups from buffer x (pageAt from after) exit) (all-due g (to-sound g so) k from)
-    (subst (λ (x : Node). Lists (g .positive) (g .negative) k from x emptyTally buffer after exit)
-    (ap rootOf is-all) went g so (root-valid g) .adds buffer [] (holds-none itemSet recordOf recordWidth (omega arith) record-wide from buffer)))
+    (subst (λ (x : List Item). HoldsGroups from buffer x (pageAt from after) exit) (all-due g (to-sound g so) k from d root)
+    (went g so (root .valid) .adds buffer [] (holds-none itemSet recordOf recordWidth (omega arith) record-wide from buffer)))

@@ -146,13 +146,14 @@ fn list_sound(g: SignedGraph, k: u64, from: Bookmark, out: &mut [u8]) -> Page
         idle: 0,
     };
     let all = signed_graph::vertices(g);
+    let root = nodes::root(all, &g.positive, &g.negative);
     let tally = list_below(
-        0,
-        all,
-        0,
-        0,
-        all,
-        0,
+        root.left.chosen,
+        root.left.candidates,
+        root.left.excluded,
+        root.right.chosen,
+        root.right.candidates,
+        root.right.excluded,
         k,
         from,
         &g.positive,

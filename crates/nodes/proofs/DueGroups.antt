@@ -9,7 +9,6 @@ use Rattle.vertex_set.proofs.Booleans.{clash, cases, and-intro, fails-left, fai
 use Rattle.vertex_set.proofs.Lists.{selected, select-from, select-keeps, sorted-select}
 use Rattle.vertex_set.proofs.LowestVertex.{lowest-lt, lowest-in, lowest-le, lowest-least}
 use Rattle.signed_graph.specs.declared.SignedGraph.{SignedGraph}
-use Rattle.signed_graph.specs.Graphs.{vertices}
 use Rattle.signed_graph.proofs.Soundness.{Sound}
 use Rattle.signed_graph.specs.Thresholds.{Threshold}
 use Rattle.clique.proofs.Balance.{usable-64}
@@ -19,13 +18,13 @@ use Rattle.clique.specs.Listing.{Item, Listed, comesBefore, listing, itemSet}
 use Rattle.pages.specs.Pages.{dueAt}
 use Rattle.group_pages.specs.Calls.{dueGroups}
 use Rattle.pages.specs.Filling.{Past}
-use Rattle.nodes.specs.Nodes.{chosen, undecided, rootOf, leaveOut, withVertex, Valid, Below, Barren, Same, leafItem, groupAt}
+use Rattle.nodes.specs.Nodes.{chosen, undecided, leaveOut, withVertex, Valid, Below, Root, Barren, Same, leafItem, groupAt}
 use Rattle.nodes.specs.Below.{dueBelow, leafItems}
 use Rattle.clique.proofs.Listing.{listing-sorted, listing-exact}
 use Rattle.pages.proofs.Bookmarks.{due-select}
 use Rattle.nodes.proofs.Nodes.{put-valid, out-valid, undecided-usable}
 use Rattle.nodes.proofs.Below.{of-below, in-below, below-sorted, below-is, none-below, below-agrees, below-step}
-use Rattle.nodes.proofs.Leaves.{leaf-group, leaf-one, leaf-none, leaf-not-group, root-below}
+use Rattle.nodes.proofs.Leaves.{leaf-group, leaf-one, leaf-none, leaf-not-group}
 
 -- ---- the set of a leaf, if it is a group and due
 
@@ -126,7 +125,7 @@ module _ (g : SignedGraph) (so : Sound g) (k : Threshold) (m : Bookmark) where
           ∙ below-step g so k e (s .valid) v small here (λ z. first)
           (λ q l. lowest-least (undecided e) q (subst (λ (z : ℕ). q < z) is l)) (dueGroups g k m) due-sorted due-listed
 
-pub all-due : (g : SignedGraph) → Sound g → (k : Threshold) (m : Bookmark) → dueBelow g k m (rootOf (vertices g)) ≡ dueGroups g k m
-all-due g so k m =
-    below-is (rootOf (vertices g)) (dueGroups g k m) (due-sorted g so k m) (dueGroups g k m) (due-sorted g so k m)
-    (λ x i. (i, root-below g k x (due-listed g so k m x i))) (λ x i b. i)
+pub all-due : (g : SignedGraph) → Sound g → (k : Threshold) (m : Bookmark) (d : Node) → Root g d → dueBelow g k m d ≡ dueGroups g k m
+all-due g so k m d root =
+    below-is d (dueGroups g k m) (due-sorted g so k m) (dueGroups g k m) (due-sorted g so k m)
+    (λ x i. (i, root .below k x (due-listed g so k m x i))) (λ x i b. i)

@@ -1,4 +1,4 @@
--- A node with nothing undecided stands for one set at the most; the root stands for all groups. Assumes nothing.
+-- A node with nothing undecided stands for one set at the most. Assumes nothing.
 use Prim.Native.Nat.{ℕ, _^_, _≤_, _<_}
 use native.Mathlib.Nat.{lt-of-lt-of-le}
 use native.Mathlib.Omega.{arith}
@@ -7,28 +7,29 @@ use mathlib.Core.Path.{_≡_, refl, sym, ap, ap₂, _∙_, subst}
 use mathlib.Core.Logic.{_⊎_, inl, inr}
 use mathlib.Core.Bool.{Bool, true, false, _&&_}
 use mathlib.Core.List.{List, [], _∷_, List·Memᴰ, List·Memᴰ·head, List·Memᴰ·not-nil, List·Memᴰ·eq-of-singleton}
-use lib.Dec.{ltb, eqb}
+use lib.Dec.{eqb}
 use lib.Bits.{bitOr}
-use borrow.Author.Tests.{ltb-true, lt-ltb, le-ltb, eqb-true, eq-eqb, ne-eqb}
+use borrow.Author.Tests.{eqb-true, eq-eqb, ne-eqb}
 use Rattle.vertex_set.specs.Lists.{Sorted}
 use Rattle.vertex_set.specs.Sets.{mem, Subset, insert, size, lowest}
 use Rattle.vertex_set.proofs.Booleans.{clash, refute, iff, and-intro, and-left, and-right, fails-left, fails-right, or-left, or-cases}
 use Rattle.vertex_set.proofs.Membership.{mem-none, none-in, mem-or, union-left, union-right, union-cases, set-ext}
 use Rattle.vertex_set.proofs.Collections.{insert-in}
 use Rattle.vertex_set.proofs.LowestVertex.{lowest-is, lowest-in}
+use Rattle.vertex_set.proofs.Sizes.{size-pos}
 use Rattle.signed_graph.specs.declared.SignedGraph.{SignedGraph}
 use Rattle.signed_graph.specs.Graphs.{negativeEdge, vertices}
 use Rattle.signed_graph.proofs.Soundness.{Sound}
 use Rattle.signed_graph.specs.Thresholds.{Threshold}
 use Rattle.clique.specs.Balance.{Split, Balanced, Sides}
 use Rattle.clique.specs.Groups.{floor}
-use Rattle.clique.proofs.Balance.{usable-64, usable-lt, split-balanced, words-balanced}
-use Rattle.clique.proofs.Groups.{single-maximal}
+use Rattle.clique.proofs.Balance.{usable-64, usable-lt, split-size, split-balanced, words-balanced}
+use Rattle.clique.proofs.Groups.{floor-two, single-maximal}
 use Rattle.clique.proofs.Extension.{Joins, extends-joins}
 use Rattle.nodes.specs.declared.Side.{Side}
 use Rattle.nodes.specs.declared.Node.{Node}
 use Rattle.clique.specs.Listing.{Item, Listed, comesBefore}
-use Rattle.nodes.specs.Nodes.{chosen, undecided, excluded, rootOf, Half, Stage, untouched, led, Valid, Between, Below, itemsBelow, leafItem, groupAt}
+use Rattle.nodes.specs.Nodes.{chosen, undecided, excluded, Half, Stage, untouched, led, Valid, Between, Below, itemsBelow, leafItem, groupAt}
 use Rattle.clique.proofs.Listing.{listed-enough, listed-left, listed-right}
 use Rattle.nodes.proofs.Below.{below-is, below-agrees}
 use Rattle.nodes.proofs.Prunes.{dominated-left, dominated-right}
@@ -36,27 +37,19 @@ use Rattle.nodes.proofs.Prunes.{dominated-left, dominated-right}
 -- ---- the test, by its parts
 
 module _ (k : Threshold) (d : Node) where
-  abbrev some : Bool
-  some = ltb 0 (chosen d)
-
-  abbrev alone : Bool
-  alone = eqb (excluded d) 0
+  abbrev unextended : Bool
+  unextended = eqb (excluded d) 0
 
   abbrev large : Bool
   large = floor k (size (d .left .chosen)) (size (d .right .chosen))
 
-  pub not-empty : chosen d ≡ 0 → groupAt k d ≡ false
-  unfolding groupAt
-  not-empty e = fails-left (some && alone) large (fails-left some alone (le-ltb 0 (chosen d) (omega arith)))
-
   pub not-extended : (excluded d ≡ 0 → ⊥) → groupAt k d ≡ false
   unfolding groupAt
-  not-extended e = fails-left (some && alone) large (fails-right some alone (ne-eqb (excluded d) 0 e))
+  not-extended e = fails-left unextended large (ne-eqb (excluded d) 0 e)
 
-  pub large-group : (chosen d ≡ 0 → ⊥) → excluded d ≡ 0 → groupAt k d ≡ floor k (size (d .left .chosen)) (size (d .right .chosen))
+  pub large-group : excluded d ≡ 0 → groupAt k d ≡ floor k (size (d .left .chosen)) (size (d .right .chosen))
   unfolding groupAt
-  large-group e f =
-      ap (λ (b : Bool). b && large) (and-intro some alone (lt-ltb 0 (chosen d) (omega arith)) (eq-eqb (excluded d) 0 f))
+  large-group e = ap (λ (b : Bool). b && large) (eq-eqb (excluded d) 0 e)
 
 module _ (g : SignedGraph) (so : Sound g) (k : Threshold) (d : Node) (h : Valid g d) (done : undecided d ≡ 0) where
   -- ---- nothing is undecided
@@ -159,17 +152,16 @@ module _ (g : SignedGraph) (so : Sound g) (k : Threshold) (d : Node) (h : Valid 
   pub leaf-group : groupAt k d ≡ true → Listed g k (leafItem d)
   unfolding groupAt
   leaf-group e =
-      let both : (some k d && alone k d) ≡ true = and-left (some k d && alone k d) (large k d) e in
-      let pos : 0 < chosen d = ltb-true 0 (chosen d) (and-left (some k d) (alone k d) both) in
+      let enough : large k d ≡ true = and-right (unextended k d) (large k d) e in
+      let pos : 0 < chosen d = size-pos (chosen d) (omega (arith, split-size chosen-split, floor-two k _ _ enough)) in
       record {
         group = record {
-          nonempty = pos;
           balanced = split-balanced g so chosen-usable chosen-split;
           left-side = d .left .chosen;
           right-side = d .right .chosen;
           sides = chosen-sides;
-          enough = and-right (some k d && alone k d) (large k d) e;
-          maximal = maximal pos (eqb-true (excluded d) 0 (and-right (some k d) (alone k d) both));
+          enough = enough;
+          maximal = maximal pos (eqb-true (excluded d) 0 (and-left (unextended k d) (large k d) e));
         };
         sides = chosen-sides;
       }
@@ -177,9 +169,7 @@ module _ (g : SignedGraph) (so : Sound g) (k : Threshold) (d : Node) (h : Valid 
   group-leaf : Listed g k (leafItem d) → groupAt k d ≡ true
   unfolding groupAt
   group-leaf lx =
-      and-intro (some k d && alone k d) (large k d)
-      (and-intro (some k d) (alone k d) (lt-ltb 0 (chosen d) (lx .group .nonempty)) (go (ℕ-discrete (excluded d) 0)))
-      (listed-enough g so k (leafItem d) lx)
+      and-intro (unextended k d) (large k d) (go (ℕ-discrete (excluded d) 0)) (listed-enough g so k (leafItem d) lx)
     where
       excluded-64 : excluded d < 2 ^ 64
       excluded-64 =
@@ -214,43 +204,3 @@ module _ (g : SignedGraph) (so : Sound g) (k : Threshold) (d : Node) (h : Valid 
 
     pub leaf-not-group : groupAt k d ≡ false → itemsBelow d l ≡ []
     leaf-not-group e = leaf-none (λ m. clash (groupAt k d) (group-leaf (listed (leafItem d) m)) e)
-
--- ---- the root
-
-module _ (g : SignedGraph) where
-  abbrev rootSide : Side
-  rootSide = rootOf (vertices g) .left
-
-  root-half : Half g rootSide 0
-  root-half =
-      record {
-        candidate = λ p m. record { usable = m; same = λ q n. none-in q n; cross = λ q n. none-in q n };
-        out = λ p m. none-in p m;
-        every = λ p f. or-left (mem p (vertices g)) (mem p 0) (f .usable);
-        apart = λ p m. mem-none p;
-      }
-
-  pub root-valid : Valid g (rootOf (vertices g))
-  root-valid =
-      record {
-        parts = record {
-          usable-l = λ p m. none-in p m;
-          usable-r = λ p m. none-in p m;
-          inside-l = λ p q _ m _. none-in p m;
-          inside-r = λ p q _ m _. none-in p m;
-          across = λ p q m _. none-in p m;
-        };
-        left = root-half;
-        right = root-half;
-        stage = untouched refl refl refl;
-      }
-
-  pub root-below : (k : Threshold) (x : Item) → Listed g k x → Below (rootOf (vertices g)) x
-  root-below k x lx = record { left = between (x .left) (listed-left lx); right = between (x .right) (listed-right lx) }
-    where
-      between : (s : ℕ) → Subset s (x .vertices) → Between rootSide s
-      between s sub =
-          record {
-            holds = λ p m. none-in p m;
-            only = λ p m. union-right p 0 (vertices g) (lx .group .balanced .usable p (sub p m));
-          }

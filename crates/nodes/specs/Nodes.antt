@@ -11,7 +11,7 @@ use Rattle.vertex_set.specs.Lists.{select}
 use Rattle.vertex_set.specs.Sets.{mem, Subset, within, size, single, others}
 use Rattle.signed_graph.specs.declared.SignedGraph.{SignedGraph}
 use Rattle.signed_graph.specs.Graphs.{positiveEdge, negativeEdge, vertices}
-use Rattle.clique.specs.Groups.{floor, nonEmpty}
+use Rattle.clique.specs.Groups.{floor}
 use Rattle.nodes.specs.declared.Side.{Side}
 use Rattle.nodes.specs.declared.Node.{Node}
 use Rattle.clique.specs.Listing.{Item, Listed}
@@ -62,12 +62,6 @@ nodeOf left-chosen left-candidates left-excluded right-chosen right-candidates r
       left = record { chosen = left-chosen; candidates = left-candidates; excluded = left-excluded };
       right = record { chosen = right-chosen; candidates = right-candidates; excluded = right-excluded };
     }
-
--- where the search starts: these vertices are undecided, and nothing is chosen or left out
-abbrev pub rootOf : ℕ → Node
-rootOf all =
-    let side : Side = record { chosen = 0; candidates = all; excluded = 0 } in
-    record { left = side; right = side }
 
 -- v, which has these positive and negative partners, goes to the left; to the right; where it may
 abbrev pub putLeft : Node → ℕ → ℕ → ℕ → Node
@@ -160,6 +154,16 @@ pub record Below (d : Node) (x : Item) : Type 0 where
 abbrev pub Held : SignedGraph → Threshold → Node → ℕ → Type 0
 Held g k d u = (x : Item) → Listed g k x → Below d x → mem u (x .vertices) ≡ true
 
+-- the search may start at d: it is valid, and below it are all groups
+pub record Root (g : SignedGraph) (d : Node) : Type 0 where
+  pub valid : Valid g d
+  pub below : (k : Threshold) (x : Item) → Listed g k x → Below d x
+
+-- r has the partners of the vertices of s, by the tables
+abbrev pub HasPartners : List ℕ → List ℕ → ℕ → ℕ → Type 0
+HasPartners positive negative s r =
+    (p q : ℕ) → mem p s ≡ true → (mem q (getD positive p 0) || mem q (getD negative p 0)) ≡ true → mem q r ≡ true
+
 -- no group is below d; the node e stands for the same groups as d
 abbrev pub Barren : SignedGraph → Threshold → Node → Type 0
 Barren g k d = (x : Item) → Listed g k x → Below d x → ⊥
@@ -179,7 +183,7 @@ isBelow d x = isBetween (d .left) (x .left) && isBetween (d .right) (x .right)
 unfoldable pub itemsBelow : Node → List Item → List Item
 itemsBelow d l = select (isBelow d) l
 
--- a side is too small, even with all its candidates
+-- the sides are too small, even with all their candidates
 unfoldable pub short : Threshold → Node → Bool
 short k d = not (floor k (size (reach (d .left))) (size (reach (d .right))))
 
@@ -188,7 +192,7 @@ abbrev pub leafItem : Node → Item
 leafItem d = record { vertices = chosen d; left = d .left .chosen; right = d .right .chosen }
 
 unfoldable pub groupAt : Threshold → Node → Bool
-groupAt k d = nonEmpty (chosen d) && eqb (excluded d) 0 && floor k (size (d .left .chosen)) (size (d .right .chosen))
+groupAt k d = eqb (excluded d) 0 && floor k (size (d .left .chosen)) (size (d .right .chosen))
 
 -- the side cannot get k vertices: a balanced set whose left has what the side has, and beyond that only candidates, has fewer there
 abbrev pub StaysShort : SignedGraph → ℕ → Side → Type 0

@@ -2,7 +2,9 @@
 ghost use mathlib.Core.Path.{_≡_};
 ghost use Rattle.nodes.specs.Nodes as nodes;
 ghost use mathlib.Core.Bool.{true};
-ghost use Rattle.nodes.specs.Nodes.{Conflicts, nodeOf, narrowed, sideWith, passedOver, putIn, leaveOut, short, groupAt};
+ghost use Rattle.signed_graph.specs.Graphs.{vertices};
+ghost use Rattle.signed_graph.specs.Tables.{ForSound};
+ghost use Rattle.nodes.specs.Nodes.{Conflicts, nodeOf, narrowed, sideWith, passedOver, putIn, leaveOut, short, groupAt, HasPartners, Root};
 
 // A side of the groups that a node of the search stands for: the vertices that all of them hold, those that are undecided and
 // may still join it, and those left out that would still fit.
@@ -89,7 +91,7 @@ pub fn leave_out(at: Node, v: usize) -> Node
     }
 }
 
-// True only where a side is too small for threshold k, even with all its candidates.
+// True only where the sides are too small for threshold k, even with all their candidates.
 pub fn is_short(at: Node, k: u64) -> bool
     ensures { λ r. ⌜ (r ≡ true → short k at ≡ true) ⌝ }
 {
@@ -98,9 +100,11 @@ pub fn is_short(at: Node, k: u64) -> bool
     }
     let left = at.left;
     let right = at.right;
-    let left_size = vertex_set::size(left.chosen | left.candidates);
-    let right_size = vertex_set::size(right.chosen | right.candidates);
-    !clique::large_enough(k, left_size, right_size)
+    !clique::large_enough(
+        k,
+        left.chosen | left.candidates,
+        right.chosen | right.candidates,
+    )
 }
 
 // Whether the chosen set of a node with nothing undecided is a group for k.
@@ -109,17 +113,10 @@ pub fn is_group(at: Node, k: u64) -> bool
 {
     let left = at.left;
     let right = at.right;
-    if left.chosen | right.chosen == 0 {
-        return false;
-    }
     if left.excluded | right.excluded != 0 {
         return false;
     }
-    clique::large_enough(
-        k,
-        vertex_set::size(left.chosen),
-        vertex_set::size(right.chosen),
-    )
+    clique::large_enough(k, left.chosen, right.chosen)
 }
 
 // The node whose sides have these.
@@ -145,6 +142,30 @@ pub fn node_of(
             excluded: right_excluded,
         },
     }
+}
+
+// The partners of the vertices of s, or more.
+fn partners<'a>(s: u64, positive: &'a [u64; 64], negative: &'a [u64; 64]) -> u64
+    ensures { λ r. ⌜ HasPartners (now (positive .entry)) (now (negative .entry)) s r ⌝ }
+{
+    let mut found: u64 = 0;
+    let mut left = s;
+    while left != 0 {
+        let p = vertex_set::lowest(left);
+        found = found | positive[p] | negative[p];
+        left = left & (left - 1);
+    }
+    found
+}
+
+// Where the search starts, of all vertices: below this node are all groups. A vertex without an edge is in none, and is left out.
+pub fn root<'a>(all: u64, positive: &'a [u64; 64], negative: &'a [u64; 64]) -> Node
+    ensures { λ r. ⌜ ForSound (now (positive .entry)) (now (negative .entry)) (λ g. all ≡ vertices g → Root g r) ⌝ }
+{
+    let joined = partners(all, positive, negative);
+    let candidates = all & joined;
+    let excluded = all & !joined;
+    node_of(0, candidates, excluded, 0, candidates, excluded)
 }
 
 // The candidates that a vertex with these partners does not fit beside.

@@ -8,17 +8,19 @@ use borrow.Author.Tests.{le-leb}
 use Rattle.vertex_set.specs.Lists.{any}
 use Rattle.vertex_set.specs.Ranges as R
 use Rattle.vertex_set.specs.Sets as S
+use Rattle.signed_graph.specs.declared.SignedGraph.{SignedGraph}
+use Rattle.signed_graph.specs.Graphs.{edgeless}
 use Rattle.signed_graph.specs.Samples.{sampleA}
 use Rattle.signed_graph.specs.Calls.{checkBy}
 use Rattle.signed_graph.specs.declared.Check.{Check}
 use Rattle.clique.specs.Balance.{left, right}
 use Rattle.clique.specs.Listing.{Item, itemOf, listing}
-use Rattle.clique.proofs.Cases.{samples-sound, cases-groups}
+use Rattle.clique.proofs.Cases.{cases-groups}
 use Rattle.largest.specs.Largest.{largestOf, largestOrNone, largestGroupBy}
 use Rattle.edge_list.specs.Acceptance.{EdgeListOf}
 use Rattle.edge_list.specs.Decoding.{decoded, decodedFrom, commandStep, stepBy, edgeStep, commandOf}
-use Rattle.edge_list.proofs.Answers.{accepted-words}
-use Rattle.edge_list.proofs.Cases.{listA, decodes}
+use Rattle.edge_list.proofs.Answers.{accepted-words, accepted-sound}
+use Rattle.edge_list.proofs.Cases.{listA, listT2, decodes}
 use Rattle.decimals.specs.Decimals.{digits, decimal}
 use Rattle.report.specs.Lines.{
   preceded,
@@ -49,13 +51,21 @@ linesA =
     0x62 ∷ 0x69 ∷ 0x67 ∷ 0x67 ∷ 0x65 ∷ 0x73 ∷ 0x74 ∷ 0x20 ∷ 0x30 ∷ 0x20 ∷ 0x31 ∷ 0x20 ∷ 0x7c ∷ 0x20 ∷ 0x32 ∷ 0x20 ∷ 0x33 ∷ 0x0a ∷
     0x67 ∷ 0x72 ∷ 0x6f ∷ 0x75 ∷ 0x70 ∷ 0x73 ∷ 0x20 ∷ 0x32 ∷ 0x0a ∷ []
 
+-- and where there is no group:
+-- biggest none
+-- groups 0
+abbrev pub linesNone : List ℕ
+linesNone =
+    0x62 ∷ 0x69 ∷ 0x67 ∷ 0x67 ∷ 0x65 ∷ 0x73 ∷ 0x74 ∷ 0x20 ∷ 0x6e ∷ 0x6f ∷ 0x6e ∷ 0x65 ∷ 0x0a ∷
+    0x67 ∷ 0x72 ∷ 0x6f ∷ 0x75 ∷ 0x70 ∷ 0x73 ∷ 0x20 ∷ 0x30 ∷ 0x0a ∷ []
+
 pub record Outputs : Type 0 where
+  -- the byte 00 and the list of a lone vertex
+  pub T2 : printed (0x00 ∷ listT2) ≡ linesNone
   -- the byte 01 and the list of A
   pub T5 : printed (0x01 ∷ listA) ≡ linesA
-  -- the threshold 3 and the list of A, where there is no group (T7): `biggest none`, `groups 0`
-  pub T7 : printed (0x03 ∷ listA)
-      ≡ 0x62 ∷ 0x69 ∷ 0x67 ∷ 0x67 ∷ 0x65 ∷ 0x73 ∷ 0x74 ∷ 0x20 ∷ 0x6e ∷ 0x6f ∷ 0x6e ∷ 0x65 ∷ 0x0a ∷
-      0x67 ∷ 0x72 ∷ 0x6f ∷ 0x75 ∷ 0x70 ∷ 0x73 ∷ 0x20 ∷ 0x30 ∷ 0x0a ∷ []
+  -- the byte 03 and the list of A
+  pub T7 : printed (0x03 ∷ listA) ≡ linesNone
   -- empty input: `refused 1 at 0`
   pub empty : printed []
       ≡ 0x72 ∷ 0x65 ∷ 0x66 ∷ 0x75 ∷ 0x73 ∷ 0x65 ∷ 0x64 ∷ 0x20 ∷ 0x31 ∷ 0x20 ∷ 0x61 ∷ 0x74 ∷ 0x20 ∷ 0x30 ∷ 0x0a ∷ []
@@ -65,25 +75,29 @@ pub record Outputs : Type 0 where
   pub list-first : printed (0x21 ∷ 0x10 ∷ 0x02 ∷ 0x21 ∷ 0x00 ∷ 0x01 ∷ [])
       ≡ 0x72 ∷ 0x65 ∷ 0x66 ∷ 0x75 ∷ 0x73 ∷ 0x65 ∷ 0x64 ∷ 0x20 ∷ 0x38 ∷ 0x20 ∷ 0x61 ∷ 0x74 ∷ 0x20 ∷ 0x35 ∷ 0x0a ∷ []
 
--- ---- the sample
+-- ---- the lists that are accepted
 
 list-A : EdgeListOf listA sampleA
 list-A = accepted-words listA sampleA (decodes .A)
 
--- what is printed for A, by the listing
-listed-A : (k : ℕ) (l : List Item) → k ≤ 32 → listing sampleA k ≡ l
-    → printed (k ∷ listA) ≡ groupsText l ++ (lineText (lineOfLargest (largestOrNone (largestOf l))) ++ countLine (length l))
-listed-A k l h e =
-    groups-printed k listA sampleA list-A h
+list-T2 : EdgeListOf listT2 (edgeless 1)
+list-T2 = accepted-words listT2 (edgeless 1) (decodes .T2)
+
+-- what is printed for such a list, by the listing of its graph
+listed : {list : List ℕ} {g : SignedGraph} → EdgeListOf list g → (k : ℕ) (l : List Item) → k ≤ 32 → listing g k ≡ l
+    → printed (k ∷ list) ≡ groupsText l ++ (lineText (lineOfLargest (largestOrNone (largestOf l))) ++ countLine (length l))
+listed {list} {g} w k l h e =
+    groups-printed k list g w h
     ∙ ap₂ (λ (c : Check) (x : List Item). groupsText x ++ (lineText (lineOfLargest (largestGroupBy c (largestOf x))) ++ countLine (length x)))
-    (ap₂ checkBy (samples-sound .sound-A) (le-leb k 32 h)) e
+    (ap₂ checkBy (accepted-sound w) (le-leb k 32 h)) e
 
 pub cases-outputs : Outputs
 unfolding decoded decodedFrom commandStep stepBy edgeStep commandOf any listing left right groupsText largestOf printed R.gather R.seek R.count S.mem S.collect S.lowest S.size S.overMembers digits decimal preceded spaced lineOf vertexWords groupWords groupLine largestLine noneLine countLine refusalLine faultLine
 cases-outputs =
     record {
-      T5 = listed-A 1 _ (omega arith) (ap (map (itemOf sampleA)) (cases-groups .T5));
-      T7 = listed-A 3 _ (omega arith) (ap (map (itemOf sampleA)) (cases-groups .T7));
+      T2 = listed list-T2 0 _ (omega arith) (ap (map (itemOf (edgeless 1))) (cases-groups .T2 0));
+      T5 = listed list-A 1 _ (omega arith) (ap (map (itemOf sampleA)) (cases-groups .T5));
+      T7 = listed list-A 3 _ (omega arith) (ap (map (itemOf sampleA)) (cases-groups .T7));
       empty = refl;
       threshold-33 = threshold-printed 33 listA sampleA list-A (omega arith);
       list-first = refl;

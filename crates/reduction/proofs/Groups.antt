@@ -24,7 +24,7 @@ use Rattle.clique.specs.Balance.{Split, Balanced, Sides, left, right}
 use Rattle.clique.specs.Groups.{Group, groups}
 use Rattle.vertex_set.specs.Order.{subsets}
 use Rattle.clique.proofs.Balance.{usable-64, other-side, split-swap, split-part, split-balanced, is-left, is-right, one-split}
-use Rattle.clique.proofs.Groups.{floor-least, group-words, words-group}
+use Rattle.clique.proofs.Groups.{floor-least, group-pos, group-words, words-group}
 use Rattle.reduction.specs.Collections.{Collection, allEdges, Inside, atLeast, vertexFits, positiveFits, negativeFits, Fits}
 use Rattle.reduction.specs.Reductions.{Reduction, reducedGraph, reducedBy, reduced}
 use Rattle.reduction.proofs.Reductions.{rounds-reduce, reduction-sound}
@@ -112,7 +112,6 @@ carried-group : {g h : SignedGraph} {k s : ℕ} (x : Group g k s) → Balanced h
     → ((t : ℕ) → Balanced h t → Subset s t → t ≡ s) → Group h k s
 carried-group x b sides most =
     record {
-      nonempty = x .nonempty;
       balanced = b;
       left-side = x .left-side;
       right-side = x .right-side;
@@ -162,7 +161,7 @@ module _ (g r : SignedGraph) (k : ℕ) (so : Sound g) (sr : Sound r) (red : Redu
         ⊎-elim
         (λ e. (omega (arith, ap size (e .0), size-part x s), omega (arith, ap size (e .1), size-part y s)))
         (λ e. (omega (arith, ap size (e .0), size-part x s), omega (arith, ap size (e .1), size-part y s)))
-        (one-split g so s (bitAnd x s) (bitAnd y s) (h .nonempty) s64 (split-part g so w sp))
+        (one-split g so s (bitAnd x s) (bitAnd y s) (group-pos h) s64 (split-part g so w sp))
 
     group-out : Group g k s
     group-out =

@@ -43,7 +43,7 @@ module _ (v : ℕ) (small : v < 64) where
 
 -- a set without its lowest member is empty
 module _ (s : ℕ) (pos : 0 < s) (fits : s < 2 ^ 64) (alone : rest s ≡ 0) where
-  is-lowest : (w : ℕ) → mem w s ≡ true → w ≡ lowest s
+  pub is-lowest : (w : ℕ) → mem w s ≡ true → w ≡ lowest s
   is-lowest w m =
       cases (w ≡ lowest s) (eqb w (lowest s)) (eqb-true w (lowest s)) (λ e.
       clash (mem w (rest s)) (mem-rest s pos fits w ∙ and-intro (mem w s) (not (eqb w (lowest s))) m (ap not e))

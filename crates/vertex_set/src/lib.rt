@@ -1,6 +1,7 @@
 // Sets of at most 64 vertices as u64 numbers: bit p says whether vertex p is in the set.
 // `&`, `|`, `^` and `& !` are intersection, union, what only one has, and difference; `s & (s - 1)` is s without its lowest vertex.
 ghost use mathlib.Core.Path.{_≡_};
+ghost use lib.Dec.{leb};
 ghost use Rattle.vertex_set.specs.Sets.{mem, size, lowest, single, below, SoleMember};
 ghost use Rattle.vertex_set.specs.Order.{precedes};
 
@@ -16,6 +17,16 @@ pub fn size(s: u64) -> u64
     ensures { λ r. ⌜ r ≡ size s ⌝ }
 {
     u64::count_ones(s) as u64
+}
+
+// Whether s has two vertices or more.
+pub fn has_two(s: u64) -> bool
+    ensures { λ r. ⌜ r ≡ leb 2 (size s) ⌝ }
+{
+    if s == 0 {
+        return false;
+    }
+    s & (s - 1) != 0
 }
 
 // The lowest vertex of s; 64 where it has none.

@@ -1,10 +1,11 @@
 //! Sound graphs of many families, each with a moderate number of groups.
 
+use super::isolated::{isolating, nearly_empty};
 use super::random::Rng;
 use crate::reference::SignedGraph;
 
 /// A number of vertices up to `most`; the ends of the range come up often.
-fn size(rng: &mut Rng, most: u64) -> u64 {
+pub fn size(rng: &mut Rng, most: u64) -> u64 {
     match rng.below(8) {
         0 => rng.below(3).min(most),
         1 => most,
@@ -16,24 +17,25 @@ fn size(rng: &mut Rng, most: u64) -> u64 {
 
 /// A graph of any family.
 pub fn graph(rng: &mut Rng) -> SignedGraph {
-    match rng.below(16) {
+    let graph = match rng.below(18) {
         0..=4 => random_graph(rng, 64),
         5..=8 => planted(rng),
         9 => one_sign(rng),
         10 => two_sides(rng),
         11 => parts(rng),
         12 => complete_balanced(rng),
-        13 if rng.chance(50) => SignedGraph::new(size(rng, 64)),
-        13 => thin(rng),
-        14 => sparse_signs(rng),
+        13 | 14 => nearly_empty(rng, 64),
+        15 => thin(rng),
+        16 => sparse_signs(rng),
         _ => small_graph(rng),
-    }
+    };
+    isolating(rng, graph, 64)
 }
 
 /// A graph with many groups for small thresholds.
 pub fn rich_graph(rng: &mut Rng) -> SignedGraph {
     let n = rng.between(12, 64);
-    match rng.below(4) {
+    let graph = match rng.below(4) {
         0 if rng.chance(1) => many_groups(rng),
         0 => parts(rng),
         1 => planted(rng),
@@ -41,12 +43,13 @@ pub fn rich_graph(rng: &mut Rng) -> SignedGraph {
             let (density, negative) = (rng.between(15, 50), rng.between(10, 90));
             with_density(rng, n, density, negative)
         }
-    }
+    };
+    isolating(rng, graph, 64)
 }
 
 /// A graph of 64 vertices, or near that, with up to some twenty thousand groups.
 pub fn dense_graph(rng: &mut Rng) -> SignedGraph {
-    match rng.below(3) {
+    let graph = match rng.below(3) {
         0 => {
             let density = rng.between(60, 97);
             with_density(rng, 64, density, 50)
@@ -62,19 +65,20 @@ pub fn dense_graph(rng: &mut Rng) -> SignedGraph {
             sign_noise(rng, &mut graph, 40);
             graph
         }
-    }
+    };
+    isolating(rng, graph, 64)
 }
 
 /// A graph of at most 12 vertices.
 pub fn small_graph(rng: &mut Rng) -> SignedGraph {
-    match rng.below(3) {
-        0 => {
+    let graph = match rng.below(7) {
+        0 | 1 => {
             let n = rng.between(1, 12);
             let density = rng.between(60, 100);
             let negative = rng.below(101);
             with_density(rng, n, density, negative)
         }
-        1 => {
+        2 | 3 => {
             let n = rng.between(4, 12);
             let side = rng.next();
             let mut graph = balanced_on(n, (1 << n) - 1, side);
@@ -82,8 +86,10 @@ pub fn small_graph(rng: &mut Rng) -> SignedGraph {
             sign_noise(rng, &mut graph, noise);
             graph
         }
-        _ => random_graph(rng, 12),
-    }
+        4 | 5 => random_graph(rng, 12),
+        _ => nearly_empty(rng, 12),
+    };
+    isolating(rng, graph, 12)
 }
 
 /// The most vertices for which a random graph of a density in percent has a moderate number of groups.
@@ -167,7 +173,7 @@ fn planted(rng: &mut Rng) -> SignedGraph {
         let most = rng.pick(&[10, 14, 24, 50]).min(n as usize);
         let members = rng.length(4, most);
         let set = order[..members].iter().fold(0, |set, &v| set | 1 << v);
-        let side = any_side(rng);
+        let side = some_vertices(rng);
         let mut clique = balanced_on(n, set, side);
         // A large clique with many faults would have too many groups.
         let noise = if members > 24 {
@@ -247,7 +253,7 @@ pub fn in_parts(n: u64, part: u64, side: u64) -> SignedGraph {
 /// One balanced clique on all vertices, with a few edges taken out or flipped; now and then of two sides of 32.
 fn complete_balanced(rng: &mut Rng) -> SignedGraph {
     let n = if rng.chance(30) { 64 } else { size(rng, 64) };
-    let any = any_side(rng);
+    let any = some_vertices(rng);
     let side = rng.pick(&[any, any, 0x5555_5555_5555_5555, 0xffff_ffff]);
     let mut graph = balanced_on(n, u64::MAX, side);
     if n < 2 {
@@ -298,7 +304,7 @@ fn many_groups(rng: &mut Rng) -> SignedGraph {
 }
 
 /// A graph with so many groups for threshold 0, as long as 64 vertices are enough: balanced graphs
-/// in parts, with no edge from one to another, and labels in a random order.
+/// in parts, with no edge from one to another, isolated vertices, and labels in a random order.
 pub fn with_groups(rng: &mut Rng, number: u64) -> SignedGraph {
     // For each vertex, the number that was open when its graph was made, and its part there.
     let mut homes: Vec<(u64, usize)> = Vec::new();
@@ -310,6 +316,8 @@ pub fn with_groups(rng: &mut Rng, number: u64) -> SignedGraph {
         }
         open -= parts.iter().product::<u64>();
     }
+    // Isolated vertices, as a graph of one part.
+    homes.resize(rng.length(homes.len(), 64), (0, 0));
     rng.shuffle(&mut homes);
     let mut graph = balanced_on(homes.len() as u64, u64::MAX, rng.next());
     for u in 0..graph.n {
@@ -323,8 +331,8 @@ pub fn with_groups(rng: &mut Rng, number: u64) -> SignedGraph {
     graph
 }
 
-/// Parts of two and three with the largest product up to a number, which is not 0; a single one
-/// where that is 1.
+/// Parts of two and three with the largest product up to a number, which is not 0; and of one where
+/// they are fewer than two, since it is the edges between parts that make groups.
 fn parts_within(most: u64) -> Vec<u64> {
     let twos = |threes: u32| (most / 3u64.pow(threes)).ilog2();
     let threes = (0..=most.ilog(3))
@@ -332,12 +340,12 @@ fn parts_within(most: u64) -> Vec<u64> {
         .expect("no threes are tried as well");
     let mut parts = vec![2; twos(threes) as usize];
     parts.resize(parts.len() + threes as usize, 3);
-    parts.resize(parts.len().max(1), 1);
+    parts.resize(parts.len().max(2), 1);
     parts
 }
 
-/// Which vertices are on one side: about half of them, a few or one.
-fn any_side(rng: &mut Rng) -> u64 {
+/// The vertices that are on one side, or that are to be isolated: about half of 64, a few or one.
+pub fn some_vertices(rng: &mut Rng) -> u64 {
     match rng.below(4) {
         0 => 1 << rng.below(64),
         1 => rng.next() & rng.next() & rng.next(),

@@ -3,13 +3,13 @@
 use super::random::Rng;
 use crate::reference::{split, Bookmark, SignedGraph};
 
-/// A threshold; most are small, and some are over 32.
+/// A threshold; most are small, 0 above all, and some are over 32.
 pub fn threshold(rng: &mut Rng) -> u64 {
     match rng.below(20) {
         0 => rng.below(33),
         1 => rng.pick(&[31, 32]),
         2 => over_most(rng),
-        _ => rng.pick(&[0, 0, 1, 1, 1, 2, 2, 3, 4, 5]),
+        _ => rng.pick(&[0, 0, 0, 0, 1, 1, 1, 2, 2, 3, 4, 5]),
     }
 }
 
@@ -78,14 +78,14 @@ fn joined_set(rng: &mut Rng, graph: &SignedGraph) -> u64 {
     set
 }
 
-/// A set near a balanced one, one of joined vertices, or any set.
+/// A set near a balanced one, one of joined vertices, a single vertex, or any set.
 pub fn set_to_classify(rng: &mut Rng, graph: &SignedGraph) -> u64 {
     let set = balanced_set(rng, graph);
     let one = 1u64 << rng.below(64);
     let inside = 1u64 << rng.below(graph.n.max(1));
     let below_highest = u64::MAX.checked_shr(set.leading_zeros() + 1).unwrap_or(0);
     let last_two = 3 << graph.n.saturating_sub(2);
-    match rng.below(13) {
+    match rng.below(14) {
         0..=2 => set,
         3 => set & !(set & set.wrapping_neg()),
         4 => set & !one,
@@ -94,13 +94,14 @@ pub fn set_to_classify(rng: &mut Rng, graph: &SignedGraph) -> u64 {
         8 => rng.pick(&[0, u64::MAX, one, one | 1, last_two]),
         9 => rng.next() & rng.next() & rng.next(),
         10 => set & below_highest,
+        11 => rng.pick(&[inside, inside, one]),
         _ => joined_set(rng, graph),
     }
 }
 
-/// A bookmark: the start, a group's own, one near a group, or any.
+/// A bookmark: the start, a group's own or a balanced set's, one near these, or any.
 pub fn bookmark(rng: &mut Rng, graph: &SignedGraph, groups: &[(u64, u64)]) -> Bookmark {
-    let set = if groups.is_empty() {
+    let set = if groups.is_empty() || rng.chance(20) {
         balanced_set(rng, graph)
     } else {
         let (left, right) = rng.pick(groups);

@@ -147,7 +147,8 @@ impl Trap {
     /// A trap of joined 5-cycles. The first of the largest groups has, of each cycle, the lowest vertex and the lower of its
     /// two partners there.
     fn of_cycles(name: String, graph: SignedGraph) -> Trap {
-        let all = (1u64 << graph.n) - 1;
+        // The vertices that have an edge.
+        let all = graph.positive.iter().fold(0, |all, row| all | row);
         let apart = |v: u64| all & !graph.positive[v as usize];
         let (mut largest, mut left) = (0, all);
         while left != 0 {
@@ -167,6 +168,13 @@ impl Trap {
             groups: None,
             largest: (largest, 0),
         }
+    }
+
+    /// The same trap with isolated vertices, 64 vertices in all, and its labels in a random order.
+    pub fn among_isolated(mut self, rng: &mut Rng) -> Trap {
+        self.name += ", among isolated vertices";
+        self.graph.n = 64;
+        self.shuffled(rng)
     }
 
     /// The same trap with its labels in a random order.

@@ -10,6 +10,8 @@ pub enum Verdict {
     Empty,
     /// foreign: the lowest vertex from n up
     OutOfRange(u64),
+    /// alone: a single vertex
+    Alone,
     /// missing: the first two vertices with no edge
     MissingEdge(u64, u64),
     /// torn: the first three vertices with one or three negative edges
@@ -31,6 +33,9 @@ pub fn classify(graph: &SignedGraph, k: u64, set: u64) -> Result<Verdict, u64> {
     }
     if let Some(&v) = members.iter().find(|&&v| v >= graph.n) {
         return Ok(Verdict::OutOfRange(v));
+    }
+    if members.len() == 1 {
+        return Ok(Verdict::Alone);
     }
     if let Some((a, b)) = missing_edge(graph, &members) {
         return Ok(Verdict::MissingEdge(a, b));

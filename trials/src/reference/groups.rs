@@ -50,6 +50,15 @@ pub fn groups(graph: &SignedGraph, k: u64) -> Vec<(u64, u64)> {
     found
 }
 
+/// Of the maximal balanced sets of a graph the groups for threshold 0, which have two vertices or
+/// more: each once, in listing order.
+fn groups_among(mut maximal: Vec<(u64, u64)>) -> Vec<(u64, u64)> {
+    maximal.retain(|(left, right)| (left | right).count_ones() >= 2);
+    maximal.sort_by(|a, b| listing_order(a.0 | a.1, b.0 | b.1));
+    maximal.dedup();
+    maximal
+}
+
 /// The groups for threshold 0 of a graph of few vertices: every subset is tried.
 pub fn groups_by_subsets(graph: &SignedGraph) -> Vec<(u64, u64)> {
     let subsets = 1usize << graph.n;
@@ -62,12 +71,8 @@ pub fn groups_by_subsets(graph: &SignedGraph) -> Vec<(u64, u64)> {
             larger != set && (sides[larger].is_some() || contained[larger])
         });
     }
-    let mut found: Vec<(u64, u64)> = (1..subsets)
-        .filter(|&set| !contained[set])
-        .filter_map(|set| sides[set])
-        .collect();
-    found.sort_by(|a, b| listing_order(a.0 | a.1, b.0 | b.1));
-    found
+    let maximal = (0..subsets).filter(|&set| !contained[set]);
+    groups_among(maximal.filter_map(|set| sides[set]).collect())
 }
 
 /// The groups for threshold 0 of a sound graph, from the maximal cliques of its signed double cover.
@@ -84,14 +89,8 @@ pub fn groups_by_cover(graph: &SignedGraph) -> Vec<(u64, u64)> {
     let all = (0..graph.n).fold(0u128, |set, v| set | 1 << v | 1 << (64 + v));
     let mut cliques = Vec::new();
     maximal_cliques(&adjacent, 0, all, 0, &mut cliques);
-    let mut found: Vec<(u64, u64)> = cliques
-        .into_iter()
-        .filter(|&clique| clique != 0)
-        .map(|clique| left_first(clique as u64, (clique >> 64) as u64))
-        .collect();
-    found.sort_by(|a, b| listing_order(a.0 | a.1, b.0 | b.1));
-    found.dedup();
-    found
+    let sides = |clique: u128| left_first(clique as u64, (clique >> 64) as u64);
+    groups_among(cliques.into_iter().map(sides).collect())
 }
 
 /// Two sides, the one that holds the lowest vertex first.

@@ -18,6 +18,9 @@ const A: [u8; 27] = [
 /// Three vertices, all edges negative.
 const THREE: [u8; 12] = [0x10, 3, 0x22, 0, 1, 0x22, 0, 2, 0x22, 1, 2, 0xff];
 
+/// One edge among 62 isolated vertices.
+const EDGE: [u8; 6] = [0x10, 64, 0x22, 63, 5, 0xff];
+
 /// An edge list and what decoding it must give: a refusal and its place, or nothing.
 type Tried = (&'static [u8], Option<(u64, usize)>);
 
@@ -49,11 +52,19 @@ fn worked_edge_lists() -> Result<(), String> {
 /// Inputs of the program and what it must print.
 fn worked_outputs() -> Vec<(u8, Vec<u8>, &'static str)> {
     let a = A.to_vec();
+    let pair = vec![0x10, 2, 0x21, 0, 1, 0xff];
     let path = vec![0x10, 3, 0x21, 0, 1, 0x21, 1, 2, 0xff];
     vec![
         (0, vec![0x10, 0, 0xff], "biggest none\ngroups 0\n"),
-        (0, vec![0x10, 1, 0xff], "0 |\nbiggest 0 |\ngroups 1\n"),
+        (0, vec![0x10, 1, 0xff], "biggest none\ngroups 0\n"),
         (1, vec![0x10, 1, 0xff], "biggest none\ngroups 0\n"),
+        (0, vec![0x10, 2, 0xff], "biggest none\ngroups 0\n"),
+        (0, vec![0x10, 64, 0xff], "biggest none\ngroups 0\n"),
+        (0, pair.clone(), "0 1 |\nbiggest 0 1 |\ngroups 1\n"),
+        (1, pair, "biggest none\ngroups 0\n"),
+        (0, EDGE.to_vec(), "5 | 63\nbiggest 5 | 63\ngroups 1\n"),
+        (1, EDGE.to_vec(), "5 | 63\nbiggest 5 | 63\ngroups 1\n"),
+        (2, EDGE.to_vec(), "biggest none\ngroups 0\n"),
         (
             1,
             THREE.to_vec(),
@@ -81,24 +92,66 @@ fn worked_graphs() -> Result<(), String> {
         }
     }
     let a = decode(&A).expect("A is valid");
-    let three = decode(&THREE).expect("three vertices are valid");
+    let kept = |k| reduce(&a, k).map(|kept| edges(&kept).len());
+    if (kept(1), kept(2)) != (Ok(8), Ok(6)) {
+        return Err("A is reduced to other edges".to_string());
+    }
+    worked_verdicts(&a)?;
+    worked_pages(&a)?;
+    worked_counts(&a)?;
+    worked_isolated()
+}
+
+fn worked_verdicts(a: &SignedGraph) -> Result<(), String> {
+    let three = &decode(&THREE).expect("three vertices are valid");
+    let edge = &decode(&EDGE).expect("one edge is valid");
+    let one = &SignedGraph::new(1);
+    let two = &SignedGraph::new(2);
     let classified = [
-        (&a, 1, 0b10011, Verdict::MissingEdge(1, 4)),
-        (&a, 1, 0b00101, Verdict::Extensible(1)),
-        (&three, 1, 0b111, Verdict::Unbalanced(0, 1, 2)),
-        (&a, 2, 0b10101, Verdict::TooSmall(2, 1)),
+        (a, 1, 0b10011, Verdict::MissingEdge(1, 4)),
+        (a, 1, 0b00101, Verdict::Extensible(1)),
+        (three, 1, 0b111, Verdict::Unbalanced(0, 1, 2)),
+        (a, 2, 0b10101, Verdict::TooSmall(2, 1)),
+        (a, 1, 0b00011, Verdict::TooSmall(2, 0)),
+        (a, 0, 0b00001, Verdict::Alone),
+        (a, 1, 0b10000, Verdict::Alone),
+        (a, 32, 0b00001, Verdict::Alone),
+        (a, 0, 0b100000, Verdict::OutOfRange(5)),
+        (one, 0, 0b1, Verdict::Alone),
+        (one, 1, 0b1, Verdict::Alone),
+        (one, 32, 0b1, Verdict::Alone),
+        (one, 0, 0b10, Verdict::OutOfRange(1)),
+        (one, 32, 0b11, Verdict::OutOfRange(1)),
+        (one, 0, 0, Verdict::Empty),
+        (two, 0, 0b11, Verdict::MissingEdge(0, 1)),
+        (edge, 0, 1 << 63, Verdict::Alone),
+        (edge, 0, 1 << 63 | 1 << 5, Verdict::Group(1 << 5, 1 << 63)),
+        (edge, 2, 1 << 63 | 1 << 5, Verdict::TooSmall(1, 1)),
     ];
     for (graph, k, set, must) in classified {
         if classify(graph, k, set) != Ok(must.clone()) {
             return Err(format!("{set:b} for {k} must be {must:?}"));
         }
     }
-    let kept = |k| reduce(&a, k).map(|kept| edges(&kept).len());
-    if (kept(1), kept(2)) != (Ok(8), Ok(6)) {
-        return Err("A is reduced to other edges".to_string());
+    match classify(one, 33, 0b1) {
+        Err(11) => Ok(()),
+        other => Err(format!("a vertex alone for 33 is {other:?}")),
     }
-    worked_pages(&a)?;
-    worked_counts(&a)
+}
+
+/// Isolated vertices only: there is no group at any threshold.
+fn worked_isolated() -> Result<(), String> {
+    for (n, k) in [(1, 0), (1, 1), (1, 32), (2, 0), (2, 1), (64, 0), (64, 1)] {
+        let graph = SignedGraph::new(n);
+        let page = list_page(&graph, k, Bookmark::Start, &mut [0; 64]);
+        let mut counts = [7; 3];
+        let counted = count(&graph, k, &[0, 1, u64::MAX], &mut counts);
+        let none = page.count == 0 && page.finished && largest(&graph, k) == Err(12);
+        if !none || counted != Ok(()) || counts != [0; 3] {
+            return Err(format!("{n} isolated vertices have a group for {k}"));
+        }
+    }
+    Ok(())
 }
 
 fn worked_pages(a: &SignedGraph) -> Result<(), String> {

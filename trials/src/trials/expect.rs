@@ -126,6 +126,7 @@ fn verdict_words(verdict: Verdict) -> [u64; 4] {
         Verdict::TooSmall(left, right) => [5, left, right, 0],
         Verdict::Extensible(v) => [6, v, 0, 0],
         Verdict::Group(left, right) => [7, left, right, 0],
+        Verdict::Alone => [8, 0, 0, 0],
     }
 }
 

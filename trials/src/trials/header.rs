@@ -4,7 +4,7 @@
 use super::tally::Tally;
 use std::path::Path;
 
-const NUMBERS: [(&str, u64); 34] = [
+const NUMBERS: [(&str, u64); 35] = [
     ("GRAPH_WORDS", 129),
     ("RECORD_BYTES", 16),
     ("LONGEST_EDGE_LIST", 6051),
@@ -39,6 +39,7 @@ const NUMBERS: [(&str, u64); 34] = [
     ("TOO_SMALL", 5),
     ("EXTENSIBLE", 6),
     ("GROUP", 7),
+    ("ALONE", 8),
 ];
 
 /// The one definition that is no number.

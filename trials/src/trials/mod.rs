@@ -6,6 +6,7 @@ mod child;
 mod expect;
 mod guards;
 mod header;
+mod isolated;
 mod many_groups;
 mod page_lists;
 mod program;

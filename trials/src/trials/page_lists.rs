@@ -1,6 +1,7 @@
 //! The trial of whole lists of page calls, as the third demand has them.
 
-use super::expect::{records, words};
+use super::expect::{graph_of, records, words};
+use super::isolated::{count_isolated, KINDS};
 use super::tally::{each_case, hex, Tally};
 use crate::generate::{
     buffer_length, edge_list, over_most, rich_graph, scrambled, unsound, Rng, UNSOUND_KINDS,
@@ -30,16 +31,18 @@ pub fn run(seed: u64, amount: u64) -> Result<Tally, String> {
             edge_list(rng).1
         };
         let any = rng.below(33);
-        let k = rng.pick(&[0, 0, 0, 0, 1, 1, 1, 1, 2, 2, 3, 4, 32, any]);
+        let k = rng.pick(&[0, 0, 0, 0, 0, 0, 1, 1, 1, 1, 2, 2, 3, 4, 32, any]);
         one_list(rng, tally, &list, k)
             .map_err(|fault| format!("list {} k {k:x}: {fault}", hex(&list)))
     })?;
     tally.each_refused(&[10, 11, 101, 102, 103])?;
+    tally.each_counted(&KINDS)?;
     Ok(tally)
 }
 
 fn one_list(rng: &mut Rng, tally: &mut Tally, list: &[u8], k: u64) -> Result<(), String> {
     let mut listing = begin(rng, list, k)?;
+    count_isolated(tally, &graph_of(&listing.graphs[0]), k);
     let short_pages = rng.chance(50);
     for _ in 0..rng.below(16) {
         let length = if short_pages {

@@ -1,9 +1,10 @@
 //! The trial of the program `groups`: its output for an input from a file and through a pipe, and no word on standard error.
 
 use super::child;
+use super::isolated::{count_isolated, ISOLATED};
 use super::tally::{each_case, hex, Tally};
 use crate::generate::{damaged, edge_list, mutated, random_bytes, Rng};
-use crate::reference::program;
+use crate::reference::{decode, program};
 use std::fs::File;
 use std::io::{ErrorKind, Write};
 use std::path::Path;
@@ -36,7 +37,9 @@ pub fn run(seed: u64, amount: u64) -> Result<Tally, String> {
     });
     // The file is not there where no case used one.
     let _ = std::fs::remove_file(&file);
-    tally
+    let tally = tally?;
+    tally.each_counted(&[ISOLATED])?;
+    Ok(tally)
 }
 
 fn count(tally: &mut Tally, input: &[u8], must: &str) {
@@ -44,6 +47,11 @@ fn count(tally: &mut Tally, input: &[u8], must: &str) {
     match first.strip_prefix("refused ") {
         Some(rest) => tally.count(&format!("refused {}", rest.split(' ').next().unwrap_or(""))),
         None => tally.add("groups", must.lines().count() as u64 - 2),
+    }
+    if let [k, list @ ..] = input {
+        if let Ok(graph) = decode(list) {
+            count_isolated(tally, &graph, u64::from(*k));
+        }
     }
     if input.len() > 65_536 {
         tally.count("longer than 65,536 bytes");
@@ -69,7 +77,7 @@ fn input(rng: &mut Rng) -> Vec<u8> {
     let k = match rng.below(10) {
         0 => rng.between(33, 255) as u8,
         1 => rng.pick(&[32, 33, 255]),
-        _ => rng.pick(&[0, 0, 1, 1, 2, 3, 4]),
+        _ => rng.pick(&[0, 0, 0, 0, 1, 1, 2, 3, 4]),
     };
     let mut input = vec![k];
     input.extend(list);

@@ -2,17 +2,20 @@
 
 use super::by_hand;
 use super::expect::words;
+use super::isolated::{count_isolated, ISOLATED};
 use super::tally::{each_case, hex_words, Tally};
 use crate::generate::{sets_to_count, small_graph, Rng};
 use crate::reference::*;
 
 pub fn run(seed: u64, amount: u64) -> Result<Tally, String> {
     by_hand::check()?;
-    each_case("reference", seed, amount, |rng, tally| {
+    let tally = each_case("reference", seed, amount, |rng, tally| {
         let graph = small_graph(rng);
         one_graph(rng, tally, &graph)
             .map_err(|fault| format!("{fault}: {}", hex_words(&words(&graph))))
-    })
+    })?;
+    tally.each_counted(&[ISOLATED])?;
+    Ok(tally)
 }
 
 fn one_graph(rng: &mut Rng, tally: &mut Tally, graph: &SignedGraph) -> Result<(), String> {
@@ -21,7 +24,8 @@ fn one_graph(rng: &mut Rng, tally: &mut Tally, graph: &SignedGraph) -> Result<()
         return Err("subsets and cover give different groups".to_string());
     }
     tally.add("groups", all.len() as u64);
-    let k = rng.below(5);
+    count_isolated(tally, graph, 0);
+    let k = rng.pick(&[0, 0, 1, 2, 3, 4]);
     let due: Vec<(u64, u64)> = all.into_iter().filter(|&sides| meets(sides, k)).collect();
     let reduced = reduce(graph, k).expect("the graph is sound");
     if groups(&reduced, k) != due {
@@ -35,19 +39,28 @@ fn one_graph(rng: &mut Rng, tally: &mut Tally, graph: &SignedGraph) -> Result<()
     if counts_of(&due, &sets) != counts_by_mask(&due, &sets) {
         return Err(format!("{sets:x?} have other counts for {k}"));
     }
+    verdicts(graph, k, &due)?;
+    if graph.n <= 6 && edges(graph).len() <= 10 {
+        tally.count("reductions over all collections");
+        if reduced != union_of_fitting(graph, k) {
+            return Err(format!("reduced for {k} is not the largest that fits"));
+        }
+    }
+    Ok(())
+}
+
+/// Holds verdicts to the groups for k: these alone are groups, and each single vertex is alone.
+fn verdicts(graph: &SignedGraph, k: u64, due: &[(u64, u64)]) -> Result<(), String> {
     for set in 0..1u64 << graph.n.min(8) {
         let verdict = classify(graph, k, set).expect("the graph is sound");
+        if (verdict == Verdict::Alone) != (set.count_ones() == 1) {
+            return Err(format!("{set:x} for {k} is {verdict:?}"));
+        }
         let listed = due.iter().find(|(left, right)| left | right == set);
         if listed.map(|&(left, right)| Verdict::Group(left, right))
             != Some(verdict).filter(|verdict| matches!(verdict, Verdict::Group(..)))
         {
             return Err(format!("classify and listing differ on {set:x} for {k}"));
-        }
-    }
-    if graph.n <= 6 && edges(graph).len() <= 10 {
-        tally.count("reductions over all collections");
-        if reduced != union_of_fitting(graph, k) {
-            return Err(format!("reduced for {k} is not the largest that fits"));
         }
     }
     Ok(())

@@ -40,11 +40,11 @@ pub fn run(seed: u64, amount: u64) -> Result<Tally, String> {
     Ok(tally)
 }
 
-/// A graph of any family and a threshold. A search goes deepest on 64 vertices without edges.
+/// A graph of any family and a threshold. A search goes deepest where every vertex has an edge and few have more.
 fn case(rng: &mut Rng) -> (SignedGraph, u64) {
     let k = threshold(rng);
     let graph = match rng.below(10) {
-        0 => SignedGraph::new(64),
+        0 => matching(rng),
         1 => balanced_on(64, u64::MAX, rng.next()),
         2 => moon_moser(rng.between(1, 21)),
         3 => dense_graph(rng),
@@ -63,10 +63,17 @@ fn case(rng: &mut Rng) -> (SignedGraph, u64) {
     (graph, k)
 }
 
+/// A perfect matching of 64 vertices.
+fn matching(rng: &mut Rng) -> SignedGraph {
+    let mut graph = SignedGraph::new(64);
+    (0..32).for_each(|v| graph.add(v, 63 - v, rng.chance(50)));
+    graph
+}
+
 /// A graph whose groups are few enough to go through them all.
 fn countable(rng: &mut Rng) -> SignedGraph {
     match rng.below(4) {
-        0 => SignedGraph::new(64),
+        0 => matching(rng),
         1 => balanced_on(64, u64::MAX, rng.next()),
         2 => rich_graph(rng),
         _ => graph(rng),

@@ -2,6 +2,7 @@
 
 use super::arrays::{graph_array, graph_with_groups, same};
 use super::expect::{self, words};
+use super::isolated::{count_isolated, KINDS};
 use super::many_groups::{compare_counts, listed};
 use super::tally::{each_case, hex_words, Tally};
 use crate::generate::{number_of_sets, sets_to_count, threshold_among, with_groups, Rng};
@@ -39,6 +40,7 @@ pub fn count(seed: u64, amount: u64) -> Result<Tally, String> {
         if graph.is_sound() {
             tally.count("graphs held to pages and reduction");
             let k = rng.pick(&[0, 0, 1, 2, 3]);
+            count_isolated(tally, &graph, k);
             agree(rng, &graph, k, &all)
                 .map_err(|fault| format!("{} k {k:x}: {fault}", hex_words(&words(&graph))))?;
         }
@@ -47,6 +49,7 @@ pub fn count(seed: u64, amount: u64) -> Result<Tally, String> {
     tally.each_refused(&[10, 11, 13, 14, 101])?;
     tally.each_counted(&NOTED.map(|(_, _, note)| note))?;
     tally.each_counted(&COUNTS)?;
+    tally.each_counted(&KINDS)?;
     tally.cases *= CALLS;
     Ok(tally)
 }
@@ -67,6 +70,9 @@ fn one_call(
     let counts: Vec<u64> = noise(rng, length);
     let must = expect::count(&array, k, &due, &sets, &counts);
     note(tally, &must, number);
+    if must.number == 0 {
+        count_isolated(tally, graph, k);
+    }
     let left = interface::count(rng, &array, k, &sets, &counts);
     let call = || {
         let (graph, sets) = (hex_words(&array), hex_words(&sets));

@@ -2,6 +2,7 @@
 
 use super::arrays::{any_graph, graph_array, room, same};
 use super::expect::{self, graph_of, words};
+use super::isolated::{count_isolated, KINDS};
 use super::tally::{each_case, hex_words, Tally};
 use crate::generate::{self, set_to_classify, threshold, threshold_near, unsound, UNSOUND_KINDS};
 use crate::interface::{self, GRAPH_WORDS};
@@ -65,6 +66,9 @@ pub fn check_call(seed: u64, amount: u64) -> Result<Tally, String> {
     Ok(tally)
 }
 
+/// Verdicts that have to come up.
+const ALONE: [&str; 2] = ["alone at 0", "alone over 0"];
+
 pub fn classify(seed: u64, amount: u64) -> Result<Tally, String> {
     let tally = each_case("classify", seed, amount, |rng, tally| {
         let graph = any_graph(rng);
@@ -79,7 +83,8 @@ pub fn classify(seed: u64, amount: u64) -> Result<Tally, String> {
             _ => threshold(rng),
         };
         if let Ok(verdict) = classified(&graph, k, set) {
-            tally.count(verdict_name(&verdict));
+            tally.count(verdict_name(&verdict, k));
+            count_isolated(tally, &graph, k);
         }
         let graph = graph_array(rng, &graph);
         let answer = room(rng, 4);
@@ -93,13 +98,17 @@ pub fn classify(seed: u64, amount: u64) -> Result<Tally, String> {
         )
     })?;
     tally.each_refused(&[10, 11, 101, 102])?;
+    tally.each_counted(&ALONE)?;
+    tally.each_counted(&KINDS)?;
     Ok(tally)
 }
 
-fn verdict_name(verdict: &Verdict) -> &'static str {
+/// What a verdict for k is counted as.
+fn verdict_name(verdict: &Verdict, k: u64) -> &'static str {
     match verdict {
         Verdict::Empty => "empty",
         Verdict::OutOfRange(_) => "out of range",
+        Verdict::Alone => ALONE[usize::from(k > 0)],
         Verdict::MissingEdge(..) => "missing an edge",
         Verdict::Unbalanced(..) => "unbalanced",
         Verdict::TooSmall(..) => "too small",

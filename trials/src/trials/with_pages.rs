@@ -2,6 +2,7 @@
 
 use super::arrays::{any_graph, graph_array, graph_with_groups, room, same};
 use super::expect::{self, graph_of};
+use super::isolated::{count_isolated, KINDS};
 use super::tally::{each_case, hex, hex_words, Tally};
 use crate::generate::{bookmark, buffer_length, threshold, threshold_among, Rng};
 use crate::interface::{self, noise, Place};
@@ -20,6 +21,7 @@ pub fn list_page(seed: u64, amount: u64) -> Result<Tally, String> {
         Ok(())
     })?;
     tally.each_refused(&[10, 11, 101, 102, 103])?;
+    tally.each_counted(&KINDS)?;
     tally.cases *= CALLS;
     Ok(tally)
 }
@@ -42,6 +44,7 @@ fn one_page(
     if must.number == 0 {
         tally.add("records", must.answer[0]);
         tally.count(["finished", "more"][must.answer[1] as usize]);
+        count_isolated(tally, graph, k);
     }
     let left = interface::list_page(rng, &array, k, from, &out, &answer);
     let call = || {
@@ -80,6 +83,9 @@ pub fn largest(seed: u64, amount: u64) -> Result<Tally, String> {
         let answer = room(rng, 2);
         let must = expect::largest(&graph, k, &answer);
         tally.count_number(must.number);
+        if matches!(must.number, 0 | 12) {
+            count_isolated(tally, &graph_of(&graph), k);
+        }
         if must.number == 0 {
             let size = (must.answer[0] | must.answer[1]).count_ones();
             tally.add("vertices in the largest", size.into());
@@ -93,6 +99,7 @@ pub fn largest(seed: u64, amount: u64) -> Result<Tally, String> {
         )
     })?;
     tally.each_refused(&[10, 11, 12, 101, 102])?;
+    tally.each_counted(&KINDS)?;
     Ok(tally)
 }
 
