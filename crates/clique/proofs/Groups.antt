@@ -45,8 +45,8 @@ module _ (k l r : ℕ) where
       and-intro (leb 2 (l + r) && leb k l) (leb k r) (and-intro (leb 2 (l + r)) (leb k l) (le-leb 2 (l + r) two) (le-leb k l a)) (le-leb k r b)
 
   -- for k = 0 two in all are enough
-  pub floor-at-0 : k ≡ 0 → floor k l r ≡ leb 2 (l + r)
-  floor-at-0 zero =
+  pub floor-at-zero : k ≡ 0 → floor k l r ≡ leb 2 (l + r)
+  floor-at-zero zero =
       iff (floor k l r) (leb 2 (l + r)) (λ e. le-leb 2 (l + r) (floor-two e)) (λ e. least-floor (leb-true 2 (l + r) e) (omega arith) (omega arith))
 
   -- from k = 1 on, k each is enough

@@ -3,7 +3,7 @@ use Prim.Native.Nat.{ℕ, _^_, _≤_, _<_}
 use native.Mathlib.Nat.{lt-of-lt-of-le}
 use native.Mathlib.Omega.{arith}
 use native.Mathlib.Decide.{ℕ-discrete}
-use mathlib.Core.Path.{_≡_, refl, sym, ap, ap₂, _∙_, subst}
+use mathlib.Core.Path.{_≡_, sym, ap, ap₂, _∙_, subst}
 use mathlib.Core.Logic.{_⊎_, inl, inr}
 use mathlib.Core.Bool.{Bool, true, false, _&&_}
 use mathlib.Core.List.{List, [], _∷_, List·Memᴰ, List·Memᴰ·head, List·Memᴰ·not-nil, List·Memᴰ·eq-of-singleton}
@@ -12,7 +12,7 @@ use lib.Bits.{bitOr}
 use borrow.Author.Tests.{eqb-true, eq-eqb, ne-eqb}
 use Rattle.vertex_set.specs.Lists.{Sorted}
 use Rattle.vertex_set.specs.Sets.{mem, Subset, insert, size, lowest}
-use Rattle.vertex_set.proofs.Booleans.{clash, refute, iff, and-intro, and-left, and-right, fails-left, fails-right, or-left, or-cases}
+use Rattle.vertex_set.proofs.Booleans.{clash, refute, iff, and-intro, and-left, and-right, fails-left, or-cases}
 use Rattle.vertex_set.proofs.Membership.{mem-none, none-in, mem-or, union-left, union-right, union-cases, set-ext}
 use Rattle.vertex_set.proofs.Collections.{insert-in}
 use Rattle.vertex_set.proofs.LowestVertex.{lowest-is, lowest-in}
@@ -30,7 +30,7 @@ use Rattle.nodes.specs.declared.Side.{Side}
 use Rattle.nodes.specs.declared.Node.{Node}
 use Rattle.clique.specs.Listing.{Item, Listed, comesBefore}
 use Rattle.nodes.specs.Nodes.{chosen, undecided, excluded, Half, Stage, untouched, led, Valid, Between, Below, itemsBelow, leafItem, groupAt}
-use Rattle.clique.proofs.Listing.{listed-enough, listed-left, listed-right}
+use Rattle.clique.proofs.Listing.{listed-enough}
 use Rattle.nodes.proofs.Below.{below-is, below-agrees}
 use Rattle.nodes.proofs.Prunes.{dominated-left, dominated-right}
 

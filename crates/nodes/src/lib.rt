@@ -91,7 +91,7 @@ pub fn leave_out(at: Node, v: usize) -> Node
     }
 }
 
-// True only where the sides are too small for threshold k, even with all their candidates.
+// True only where the sides are too small for threshold k, even with all their candidates. For k = 0 nothing is looked at.
 pub fn is_short(at: Node, k: u64) -> bool
     ensures { λ r. ⌜ (r ≡ true → short k at ≡ true) ⌝ }
 {
