@@ -5,8 +5,9 @@
  * function here is proved to meet its contract, which stands at the function in
  * crates/mastpickle/src/lib.rt.
  *
- * A group for threshold k is a balanced set of two vertices or more, with at least k on each side,
- * that no larger balanced set contains.
+ * A set of vertices is balanced where every two of them have an edge and it splits in two sides,
+ * positive edges inside a side and negative ones across. A group for threshold k is a balanced set
+ * of two vertices or more, with at least k on each side, that no larger balanced set contains.
  *
  * Numbers are 64 bits wide. A set of vertices is a number with bit p for vertex p. A graph is an
  * array of MASTPICKLE_GRAPH_WORDS words: n, then for each of 64 vertices the set of its positive

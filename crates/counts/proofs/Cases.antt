@@ -26,6 +26,8 @@ words n = replicate n 0
 pub record Cases : Type 0 where
   -- T1: no group contains anything
   pub T1 : map (containing (edgeless 0) 0) (0 ∷ 1 ∷ (2 ^ 64 - 1) ∷ []) ≡ 0 ∷ 0 ∷ 0 ∷ []
+  -- T2: a lone vertex lies in none, and there is none
+  pub T2 : map (containing (edgeless 1) 0) (0 ∷ set (0 ∷ []) ∷ []) ≡ 0 ∷ 0 ∷ []
   -- T4: all groups; 1, which lies in both; 0; 0 and 2, which lie in none together; 3, which the graph does not have
   pub T4 : map (containing chain 0) (0 ∷ set (1 ∷ []) ∷ set (0 ∷ []) ∷ set (0 ∷ 2 ∷ []) ∷ set (3 ∷ []) ∷ []) ≡ 2 ∷ 2 ∷ 1 ∷ 0 ∷ 0 ∷ []
   -- T5: all groups; 0 and 2, on different sides of both; a group; a group and 4; the same set twice
@@ -51,6 +53,7 @@ unfolding listing groups subsets choices select isGroup extension floor balanced
 cases =
     record {
       T1 = refl;
+      T2 = refl;
       T4 = refl;
       T5 = refl;
       none = numbered 0 [] [];
