@@ -61,7 +61,7 @@ extern "C" {
 #endif
 
 /* The version of the library and of the program `groups`. */
-#define MASTPICKLE_VERSION "2.0.0"
+#define MASTPICKLE_VERSION "3.0.0"
 
 /* The words of a graph, the bytes of a record, the longest edge list that mastpickle_encode writes,
    the most sets that mastpickle_count takes, and a stack that is enough for every call. */
@@ -164,10 +164,15 @@ uint64_t mastpickle_classify(const uint64_t *graph, size_t graph_words, uint64_t
 /*
  * Writes the graph without the edges that no group for k can use. It has the same groups for k,
  * with the same sides.
- * Returns 0; or 10, 11, and then writes the graph of no vertices; or 101, for either array.
+ * Edges are dropped in rounds, up to the first that drops nothing. The first looks at all vertices
+ * and all edges, each other one at the vertices of the edges dropped in the round before and at the
+ * kept edges that have such a vertex. Writes into answer[0] the looks: how many vertices and edges
+ * all rounds together look at.
+ * Returns 0; or 10, 11, and then writes the graph of no vertices and into answer[0] 0; or 101, for
+ * either graph, 102 (one word).
  */
 uint64_t mastpickle_reduce(const uint64_t *graph, size_t graph_words, uint64_t k, uint64_t *reduced,
-                           size_t reduced_words);
+                           size_t reduced_words, uint64_t *answer, size_t answer_words);
 
 /*
  * Writes the records of the first groups for k that are due at a bookmark, in listing order, as

@@ -55,9 +55,15 @@ encodeAnswer graph out answer =
 
 -- ---- reduce
 
-abbrev pub reduceReturns : List ℕ → ℕ → List ℕ → ℕ
-reduceReturns graph k to = numberAfter (graphRefusal (min (length graph) (length to))) (refusalNumber (graphAt graph) k)
+-- the interface's own refusal: both arrays for graphs are long enough where the shorter one is
+abbrev pub reduceRefusal : List ℕ → List ℕ → List ℕ → ℕ
+reduceRefusal graph to answer = ownRefusal (min (length graph) (length to)) (length answer) 1
 
-abbrev pub reduceGraph : List ℕ → ℕ → List ℕ → List ℕ
-reduceGraph graph k to =
-    wordsAfter (graphRefusal (min (length graph) (length to))) (wordsOf (reduced (graphAt graph) k .graph)) to
+abbrev pub reduceReturns : List ℕ → ℕ → List ℕ → List ℕ → ℕ
+reduceReturns graph k to answer = numberAfter (reduceRefusal graph to answer) (refusalNumber (graphAt graph) k)
+
+abbrev pub reduceGraph : List ℕ → ℕ → List ℕ → List ℕ → List ℕ
+reduceGraph graph k to answer = wordsAfter (reduceRefusal graph to answer) (wordsOf (reduced (graphAt graph) k .graph)) to
+
+abbrev pub reduceAnswer : List ℕ → ℕ → List ℕ → List ℕ → List ℕ
+reduceAnswer graph k to answer = wordsAfter (reduceRefusal graph to answer) (reduced (graphAt graph) k .looks ∷ []) answer

@@ -2,7 +2,7 @@
 use signed_graph::SignedGraph;
 ghost use mathlib.Core.Path.{_≡_};
 ghost use Prim.Native.Nat.{min};
-ghost use Rattle.c_graphs.specs.Calls.{newReturns, newGraph, checkSoundReturns, checkCallReturns, decodeReturns, decodeGraph, decodeAnswer, encodeReturns, encodeBuffer, encodeAnswer, reduceReturns, reduceGraph};
+ghost use Rattle.c_graphs.specs.Calls.{newReturns, newGraph, checkSoundReturns, checkCallReturns, decodeReturns, decodeGraph, decodeAnswer, encodeReturns, encodeBuffer, encodeAnswer, reduceReturns, reduceGraph, reduceAnswer};
 
 // The shorter of two lengths.
 fn shorter(a: usize, b: usize) -> usize
@@ -80,17 +80,21 @@ pub fn encode(graph: &[u64], out: &mut [u8], answer: &mut [u64]) -> u64
     encoded.number()
 }
 
-// Writes the graph reduced for threshold k.
-pub fn reduce(graph: &[u64], k: u64, reduced: &mut [u64]) -> u64
-    ensures number { λ r. ⌜ r ≡ reduceReturns (now (graph .entry)) k (now (reduced .entry)) ⌝ }
-    ensures words { λ r. ⌜ now (reduced .exit) ≡ reduceGraph (now (graph .entry)) k (now (reduced .entry)) ⌝ }
+// Writes the graph reduced for threshold k, and the looks that it took.
+pub fn reduce(graph: &[u64], k: u64, reduced: &mut [u64], answer: &mut [u64]) -> u64
+    ensures number { λ r. ⌜ r ≡ reduceReturns (now (graph .entry)) k (now (reduced .entry)) (now (answer .entry)) ⌝ }
+    ensures words { λ r. ⌜ now (reduced .exit) ≡ reduceGraph (now (graph .entry)) k (now (reduced .entry)) (now (answer .entry)) ⌝ }
+    ensures looks { λ r. ⌜ now (answer .exit) ≡ reduceAnswer (now (graph .entry)) k (now (reduced .entry)) (now (answer .entry)) ⌝ }
 {
-    let own = c_words::graph_refusal(shorter(graph.len(), reduced.len()));
+    let least = shorter(graph.len(), reduced.len());
+    let own = c_words::own_refusal(least, answer.len(), 1);
     if own != 0 {
         return own;
     }
-    let answer = reduction::reduce(c_words::graph_at(graph), k);
-    c_words::put_graph(answer.graph, reduced);
-    let outcome = answer.outcome;
+    let done = reduction::reduce(c_words::graph_at(graph), k);
+    c_words::put_graph(done.graph, reduced);
+    let words = [done.looks];
+    c_words::put_words(&words, answer);
+    let outcome = done.outcome;
     outcome.number()
 }

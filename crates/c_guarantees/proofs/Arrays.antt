@@ -1,5 +1,5 @@
 -- What the arrays for S hold. Assumes nothing.
-use Prim.Native.Nat.{ℕ, min, _≤_}
+use Prim.Native.Nat.{ℕ, _≤_}
 use native.Mathlib.Omega.{arith}
 use mathlib.Core.Path.{_≡_, refl, ap, _∙_}
 use mathlib.Core.Logic.{inl, inr}
@@ -15,10 +15,10 @@ use Rattle.reduction.specs.Reductions.{reduced}
 use Rattle.reduction.proofs.Groups.{reduce-keeps}
 use Rattle.guarantees.specs.Demand.{OneOf}
 use Rattle.c_words.specs.Graphs.{graphWords, wordsOf, graphAt}
-use Rattle.c_words.specs.Refusals.{graphRefusal, ownRefusal, wordsAfter}
+use Rattle.c_words.specs.Refusals.{ownRefusal, wordsAfter}
 use Rattle.c_words.proofs.Graphs.{sound-read, sound-long}
-use Rattle.c_words.proofs.Refusals.{graph-long, both-long, returns-0}
-use Rattle.c_graphs.specs.Calls.{decodeReturns}
+use Rattle.c_words.proofs.Refusals.{both-long, returns-0}
+use Rattle.c_graphs.specs.Calls.{decodeReturns, reduceRefusal}
 use Rattle.c_guarantees.specs.CDemand.{LeftByDecode, LeftByReduce, ArrayOf}
 
 -- ---- an edge list that is accepted
@@ -58,10 +58,10 @@ module _ (bytes : List ℕ) (is-graph : decoded bytes ≡ accepted (decoded byte
   module _ (k : ℕ) (small : k ≤ 32) where
     reduce-left : (array : List ℕ) → LeftByReduce bytes k array → Reads (reduced S k .graph) array
     reduce-left array d =
-        let own = graphRefusal (min (length (d .graph)) (length (d .before))) in
+        let own = reduceRefusal (d .graph) (d .before) (d .answer) in
         let z = returns-0 own _ (d .returned) .0 in
         let from = decode-left (d .graph) (d .by-decode) .read in
-        written (reduced S k .graph) (reduce-keeps S k sound-S small .0) own (d .before) array z (omega (arith, graph-long z _ refl))
+        written (reduced S k .graph) (reduce-keeps S k sound-S small .0) own (d .before) array z (omega (arith, both-long z _ _ 1 refl .0))
         (d .left ∙ ap (λ (g : SignedGraph). wordsAfter own (wordsOf (reduced g k .graph)) (d .before)) from)
 
     -- S, or S reduced for k

@@ -39,8 +39,9 @@ pub record LeftByReduce (bytes : List ℕ) (k : ℕ) (array : List ℕ) : Type 0
   pub graph : List ℕ
   pub by-decode : LeftByDecode bytes graph
   pub before : List ℕ
-  pub returned : reduceReturns graph k before ≡ 0
-  pub left : array ≡ reduceGraph graph k before
+  pub answer : List ℕ
+  pub returned : reduceReturns graph k before answer ≡ 0
+  pub left : array ≡ reduceGraph graph k before answer
 
 -- the array has S, or S reduced for k
 abbrev pub ArrayOf : List ℕ → ℕ → List ℕ → Type 0

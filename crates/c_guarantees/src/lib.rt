@@ -17,11 +17,11 @@ pub fn decode_call(bytes: &[u8], graph: &mut [u64], answer: &mut [u64]) -> u64
 }
 
 // From an array with S it leaves one with S reduced for k, where it returns 0.
-pub fn reduce_call(graph: &[u64], k: u64, reduced: &mut [u64]) -> u64
-    ensures { λ r. ⌜ r ≡ reduceReturns (now (graph .entry)) k (now (reduced .entry)) ⌝ }
+pub fn reduce_call(graph: &[u64], k: u64, reduced: &mut [u64], answer: &mut [u64]) -> u64
+    ensures { λ r. ⌜ r ≡ reduceReturns (now (graph .entry)) k (now (reduced .entry)) (now (answer .entry)) ⌝ }
     ensures { λ r. ⌜ ((bytes : List ℕ) → LeftByDecode bytes (now (graph .entry)) → r ≡ 0 → ArrayOf bytes k (now (reduced .exit))) ⌝ }
 {
-    mastpickle::mastpickle_reduce(graph, k, reduced)
+    mastpickle::mastpickle_reduce(graph, k, reduced, answer)
 }
 
 // A page call is one of the calls that the theorem links, from whatever bookmark its caller goes on.

@@ -76,9 +76,10 @@ pub record Cases : Type 0 where
   pub T5 : listing sampleA 1 ≡ group (0 ∷ 1 ∷ []) (2 ∷ 3 ∷ []) ∷ group (0 ∷ 4 ∷ []) (2 ∷ []) ∷ []
   pub T5-printed : printed (1 ∷ listA) ≡ linesA
   pub T5-largest : largestGroup sampleA 1 ≡ record { outcome = Accepted; left = set (0 ∷ 1 ∷ []); right = set (2 ∷ 3 ∷ []) }
-  -- A at k = 2: the larger alone; reduced for 2 it has 6 edges, reduced for 1 all 8
+  -- A at k = 2: the larger alone; reduced for 2, with 21 looks, it has 6 edges, reduced for 1 all 8
   pub T6 : listing sampleA 2 ≡ group (0 ∷ 1 ∷ []) (2 ∷ 3 ∷ []) ∷ []
   pub T6-edges : edgeCount (reduced sampleA 2 .graph) ≡ 6
+  pub T6-looks : reduced sampleA 2 .looks ≡ 21
   pub T6-at-1-edges : edgeCount (reduced sampleA 1 .graph) ≡ 8
   -- A at k = 3: no group
   pub T7 : listing sampleA 3 ≡ []
@@ -201,6 +202,7 @@ cases =
       T5-largest = at-T5-largest;
       T6 = ap (map (itemOf sampleA)) (reduction.cases-groups .T6);
       T6-edges = reduction.cases-reductions .T6-edges;
+      T6-looks = reduction.cases-reductions .T6-looks;
       T6-at-1-edges = reduction.cases-reductions .T6-at-1-edges;
       T7 = ap (map (itemOf sampleA)) (cases-groups .T7);
       T8 = ap₂ verdicts.classifiedBy check-A (cases-verdicts .T8);

@@ -1,7 +1,7 @@
 // The library for C, C++ and Rust: each call of the finder on numbers and slices, under its C name. include/mastpickle.h says how it is used.
 ghost use mathlib.Core.Path.{_≡_};
 ghost use Rattle.group_pages.specs.Records.{recordAt};
-ghost use Rattle.c_graphs.specs.Calls.{newReturns, newGraph, checkSoundReturns, checkCallReturns, decodeReturns, decodeGraph, decodeAnswer, encodeReturns, encodeBuffer, encodeAnswer, reduceReturns, reduceGraph};
+ghost use Rattle.c_graphs.specs.Calls.{newReturns, newGraph, checkSoundReturns, checkCallReturns, decodeReturns, decodeGraph, decodeAnswer, encodeReturns, encodeBuffer, encodeAnswer, reduceReturns, reduceGraph, reduceAnswer};
 ghost use Rattle.c_groups.specs.Calls.{classifyReturns, classifyAnswer, largestReturns, largestAnswer, countReturns, countCounts};
 ghost use Rattle.c_pages.specs.Answers.{partAt};
 ghost use Rattle.c_pages.specs.Calls.{listPageReturns, listPageBuffer, listPageAnswer, recordAtReturns, recordAtAnswer};
@@ -60,13 +60,19 @@ pub extern "C" fn mastpickle_classify(graph: &[u64], k: u64, set: u64, answer: &
     c_groups::classify(graph, k, set, answer)
 }
 
-// Writes the graph reduced for threshold k.
+// Writes the graph reduced for threshold k, and the looks that it took.
 #[no_mangle]
-pub extern "C" fn mastpickle_reduce(graph: &[u64], k: u64, reduced: &mut [u64]) -> u64
-    ensures number { λ r. ⌜ r ≡ reduceReturns (now (graph .entry)) k (now (reduced .entry)) ⌝ }
-    ensures words { λ r. ⌜ now (reduced .exit) ≡ reduceGraph (now (graph .entry)) k (now (reduced .entry)) ⌝ }
+pub extern "C" fn mastpickle_reduce(
+    graph: &[u64],
+    k: u64,
+    reduced: &mut [u64],
+    answer: &mut [u64],
+) -> u64
+    ensures number { λ r. ⌜ r ≡ reduceReturns (now (graph .entry)) k (now (reduced .entry)) (now (answer .entry)) ⌝ }
+    ensures words { λ r. ⌜ now (reduced .exit) ≡ reduceGraph (now (graph .entry)) k (now (reduced .entry)) (now (answer .entry)) ⌝ }
+    ensures looks { λ r. ⌜ now (answer .exit) ≡ reduceAnswer (now (graph .entry)) k (now (reduced .entry)) (now (answer .entry)) ⌝ }
 {
-    c_graphs::reduce(graph, k, reduced)
+    c_graphs::reduce(graph, k, reduced, answer)
 }
 
 // Writes a page of the listing for threshold k, and its answer.

@@ -1,4 +1,4 @@
--- Document 01's case T6, which computes: A reduced for 2 keeps 6 edges, and for 1 all 8; its group. Assumes nothing.
+-- Document 01's case T6, which computes: A reduced for 2 keeps 6 edges in 21 looks, and for 1 all 8; its group. Assumes nothing.
 use mathlib.Core.Path.{_≡_, refl, ap}
 use mathlib.Core.List.{[], _∷_}
 use lib.ListN.{replicate}
@@ -17,7 +17,7 @@ use Rattle.vertex_set.specs.Order.{choices, subsets}
 use Rattle.clique.proofs.Cases.{set}
 use Rattle.reduction.specs.declared.Reduced.{Reduced}
 use Rattle.reduction.specs.Collections.{atLeast, vertexFits, positiveFits, negativeFits}
-use Rattle.reduction.specs.Reductions.{round, fallen, rounds, reducedGraph, reduced}
+use Rattle.reduction.specs.Reductions.{round, fallen, edgesAt, looksAt, start, dropsNothing, lastRound, reducedGraph, looks, reduced}
 
 -- A without its edges at vertex 4
 abbrev pub coreA : SignedGraph
@@ -29,18 +29,19 @@ coreA =
     }
 
 pub record Reductions : Type 0 where
-  pub T6 : reduced sampleA 2 ≡ record { outcome = Accepted; graph = coreA }
+  pub T6 : reduced sampleA 2 ≡ record { outcome = Accepted; graph = coreA; looks = 21 }
+  pub T6-looks : reduced sampleA 2 .looks ≡ 21
   pub T6-edges : edgeCount (reduced sampleA 2 .graph) ≡ 6
-  pub T6-at-1 : reduced sampleA 1 ≡ record { outcome = Accepted; graph = sampleA }
+  pub T6-at-1 : reduced sampleA 1 ≡ record { outcome = Accepted; graph = sampleA; looks = 13 }
   pub T6-at-1-edges : edgeCount (reduced sampleA 1 .graph) ≡ 8
 
 -- each is computed once
-at-2 : reduced sampleA 2 ≡ record { outcome = Accepted; graph = coreA }
-unfolding reducedGraph rounds round fallen vertexFits positiveFits negativeFits atLeast tableOf sound hasAllRows loopless symmetric confined unambiguous R.all R.count R.gather S.mem S.collect
+at-2 : reduced sampleA 2 ≡ record { outcome = Accepted; graph = coreA; looks = 21 }
+unfolding reducedGraph looks looksAt edgesAt lastRound dropsNothing start round fallen vertexFits positiveFits negativeFits atLeast tableOf sound hasAllRows loopless symmetric confined unambiguous R.all R.count R.sum R.seek R.gather S.mem S.collect S.size S.below
 at-2 = refl
 
-at-1 : reduced sampleA 1 ≡ record { outcome = Accepted; graph = sampleA }
-unfolding reducedGraph rounds round fallen vertexFits positiveFits negativeFits atLeast tableOf sound hasAllRows loopless symmetric confined unambiguous R.all R.count R.gather S.mem S.collect
+at-1 : reduced sampleA 1 ≡ record { outcome = Accepted; graph = sampleA; looks = 13 }
+unfolding reducedGraph looks looksAt edgesAt lastRound dropsNothing start round fallen vertexFits positiveFits negativeFits atLeast tableOf sound hasAllRows loopless symmetric confined unambiguous R.all R.count R.sum R.seek R.gather S.mem S.collect S.size S.below
 at-1 = refl
 
 pub cases-reductions : Reductions
@@ -48,6 +49,7 @@ unfolding edgeCount R.count R.sum S.mem
 cases-reductions =
     record {
       T6 = at-2;
+      T6-looks = ap (λ (r : Reduced). r .looks) at-2;
       T6-edges = ap (λ (r : Reduced). edgeCount (r .graph)) at-2;
       T6-at-1 = at-1;
       T6-at-1-edges = ap (λ (r : Reduced). edgeCount (r .graph)) at-1;

@@ -26,7 +26,7 @@ use Rattle.vertex_set.specs.Order.{subsets}
 use Rattle.clique.proofs.Balance.{usable-64, other-side, split-swap, split-part, split-balanced, is-left, is-right, one-split}
 use Rattle.clique.proofs.Groups.{floor-least, group-pos, group-words, words-group}
 use Rattle.reduction.specs.Collections.{Collection, allEdges, Inside, atLeast, vertexFits, positiveFits, negativeFits, Fits}
-use Rattle.reduction.specs.Reductions.{Reduction, reducedGraph, reducedBy, reduced}
+use Rattle.reduction.specs.Reductions.{Reduction, reducedGraph, looks, reducedBy, reduced}
 use Rattle.reduction.proofs.Reductions.{rounds-reduce, reduction-sound}
 
 -- ---- counts
@@ -214,6 +214,6 @@ reduce-keeps g k e small =
     let so : Sound g = to-sound g e in
     let red : Reduction g k (reducedGraph g k) = rounds-reduce g k so in
     let accepted : reducedGraph g k ≡ reduced g k .graph =
-    sym (ap₂ (λ (a b : Bool). reducedBy (checkBy a b) (reducedGraph g k) .graph) e (le-leb k 32 small)) in
+    sym (ap₂ (λ (a b : Bool). reducedBy (checkBy a b) (reducedGraph g k) (looks g k) .graph) e (le-leb k 32 small)) in
     subst (λ (r : SignedGraph). (sound r ≡ true) × SameGroups g r k) accepted
     (from-sound (reducedGraph g k) (reduction-sound g k so red), reduction-keeps g (reducedGraph g k) k so red)

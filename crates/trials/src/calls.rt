@@ -2,6 +2,7 @@
 use crate::cases::MOST;
 use crate::cases::number;
 use crate::cases::word;
+use crate::printing::print_number;
 use crate::printing::print_numbers;
 use crate::printing::print_outcome;
 use clique::Classified;
@@ -19,6 +20,7 @@ pub fn reduce(x: &[u8; MOST], g: SignedGraph) -> SignedGraph {
     let reduced = reduction::reduce(g, number(x, 0));
     let outcome = reduced.outcome;
     print_check(outcome);
+    print_number(reduced.looks);
     reduced.graph
 }
 

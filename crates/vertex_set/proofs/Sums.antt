@@ -3,7 +3,9 @@
 use Prim.Native.Nat.{ℕ, zero, suc, _+_, _-_, _≤_, _<_}
 use native.Mathlib.Nat.{add-zero}
 use native.Mathlib.Omega.{arith}
+use native.Mathlib.Decide.{ℕ-discrete}
 use mathlib.Core.Path.{_≡_, refl, ap, ap₂, _∙_}
+use mathlib.Core.Logic.{_≢_}
 use mathlib.Core.Bool.{Bool, _&&_}
 use mathlib.Core.List.{List, append-nil}
 use lib.Dec.{ltb}
@@ -35,14 +37,34 @@ module _ (f : ℕ → ℕ) (n : ℕ) (none : (p : ℕ) → n ≤ p → f p ≡ 0
       let e : m ≡ n + (m - n) = omega arith in
       ap (λ (k : ℕ). sum k f) e ∙ past (m - n)
 
+-- where nothing is added up, there is nothing
+pub sum-zero : (f : ℕ → ℕ) (n : ℕ) → sum n f ≡ 0 → (p : ℕ) → p < n → f p ≡ 0
+unfolding sum
+sum-zero f zero e p l = absurd (omega arith)
+sum-zero f (suc n) e p l = go (ℕ-discrete p n) (λ (k : p < n). sum-zero f n (omega arith) p k)
+  where
+    go : Dec (p ≡ n) → (p < n → f p ≡ 0) → f p ≡ 0
+    go (yes x) r = omega (arith, ap f x, e)
+    go (no x) r = r (omega arith)
+
+-- where h gives nothing at q, and else what f gives
+pub sum-without : (f h : ℕ → ℕ) (n q : ℕ) → q < n → h q ≡ 0 → ((p : ℕ) → p ≢ q → f p ≡ h p) → sum n f ≡ sum n h + f q
+unfolding sum
+sum-without f h zero q l z e = absurd (omega arith)
+sum-without f h (suc n) q l z e = go (ℕ-discrete n q) (λ (k : q < n). sum-without f h n q k z e)
+  where
+    go : Dec (n ≡ q) → (q < n → sum n f ≡ sum n h + f q) → sum n f + f n ≡ sum n h + h n + f q
+    go (yes x) r = omega (arith, sum-cong f h n (λ p k. e p (omega arith)), ap f x, ap h x)
+    go (no x) r = omega (arith, r (omega arith), e n x)
+
 -- ---- a test of two numbers
 
-sum-add : (f h : ℕ → ℕ) (n : ℕ) → sum n (λ p. f p + h p) ≡ sum n f + sum n h
+pub sum-add : (f h : ℕ → ℕ) (n : ℕ) → sum n (λ p. f p + h p) ≡ sum n f + sum n h
 unfolding sum
 sum-add f h zero = refl
 sum-add f h (suc n) = omega (arith, sum-add f h n)
 
-sum-none : (n : ℕ) → sum n (λ p. 0) ≡ 0
+pub sum-none : (n : ℕ) → sum n (λ p. 0) ≡ 0
 unfolding sum
 sum-none zero = refl
 sum-none (suc n) = omega (arith, sum-none n)
