@@ -1,6 +1,7 @@
 //! Seeded generators of everything that the trials hand over.
 
 mod edge_lists;
+mod falling;
 mod graphs;
 mod isolated;
 mod random;
@@ -9,6 +10,7 @@ mod traps;
 mod unsound;
 
 pub use edge_lists::{damaged, edge_list, mutated, random_bytes, scrambled};
+pub use falling::{falling, with_tail};
 pub use graphs::{
     balanced_on, dense_graph, graph, rich_graph, small_graph, with_density, with_groups,
 };

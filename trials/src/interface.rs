@@ -124,9 +124,10 @@ pub fn classify(rng: &mut Rng, graph: &[u64], k: u64, set: u64, answer: &[u64]) 
     })
 }
 
-pub fn reduce(rng: &mut Rng, graph: &[u64], k: u64, reduced: &[u64]) -> Called {
+pub fn reduce(rng: &mut Rng, graph: &[u64], k: u64, reduced: &[u64], answer: &[u64]) -> Called {
     let mut graph = Lent::new(rng, "graph", graph);
     let mut reduced = Lent::new(rng, "reduced", reduced);
+    let mut answer = Lent::new(rng, "answer", answer);
     let number = unsafe {
         c::mastpickle_reduce(
             graph.pointer(),
@@ -134,12 +135,15 @@ pub fn reduce(rng: &mut Rng, graph: &[u64], k: u64, reduced: &[u64]) -> Called {
             k,
             reduced.pointer(),
             reduced.length,
+            answer.pointer(),
+            answer.length,
         )
     };
     graph.unchanged()?;
     Ok(Outcome {
         number,
         graph: reduced.written()?,
+        answer: answer.written()?,
         ..Outcome::default()
     })
 }

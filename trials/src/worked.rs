@@ -1,8 +1,8 @@
 //! What the program crates/trials must print: the cases that it is given, answered by the reference.
 
 use crate::reference::{
-    classify, count, decode, encode, largest, list_page, record_at, reduce, Bookmark, SignedGraph,
-    Verdict,
+    classify, count, decode, encode, largest, list_page, record_at, reduce, Bookmark, Reduced,
+    SignedGraph, Verdict,
 };
 
 /// What the program is given. Its first lines say what the letter of a case stands for.
@@ -107,11 +107,13 @@ fn by_rows(bytes: &[u8], graph: &mut SignedGraph) -> String {
     String::new()
 }
 
-/// Reduces the graph, which gives the reduced one.
+/// Reduces the graph, which gives the reduced one; the looks.
 fn reduced(k: u64, graph: &mut SignedGraph) -> String {
     let answer = reduce(graph, k);
-    *graph = answer.clone().unwrap_or(SignedGraph::new(0));
-    said(answer.err().unwrap_or(0), &[])
+    let number = answer.as_ref().err().copied().unwrap_or(0);
+    let reduced = answer.unwrap_or(Reduced::nothing());
+    *graph = reduced.graph;
+    said(number, &[reduced.looks])
 }
 
 /// Encodes the graph into `room` bytes.

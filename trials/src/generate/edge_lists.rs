@@ -30,15 +30,11 @@ pub fn scrambled(rng: &mut Rng, graph: &SignedGraph) -> Vec<u8> {
 
 fn commands(rng: &mut Rng, graph: &SignedGraph) -> Vec<[u8; 3]> {
     let mut commands = Vec::new();
-    for u in 0..graph.n {
-        for v in u + 1..graph.n {
-            if graph.is_edge(u, v) {
-                let command = if graph.is_positive(u, v) { 0x21 } else { 0x22 };
-                let swap = rng.chance(50);
-                let (a, b) = if swap { (v, u) } else { (u, v) };
-                commands.push([command, a as u8, b as u8]);
-            }
-        }
+    for (u, v, positive) in graph.edges() {
+        let command = if positive { 0x21 } else { 0x22 };
+        let swap = rng.chance(50);
+        let (a, b) = if swap { (v, u) } else { (u, v) };
+        commands.push([command, a as u8, b as u8]);
     }
     rng.shuffle(&mut commands);
     commands

@@ -162,7 +162,7 @@ pub fn sign_noise(rng: &mut Rng, graph: &mut SignedGraph, percent: u64) {
 }
 
 /// One to three balanced cliques with few faults, over a thin random graph.
-fn planted(rng: &mut Rng) -> SignedGraph {
+pub fn planted(rng: &mut Rng) -> SignedGraph {
     let n = rng.between(6, 64);
     let density = rng.below(36);
     let negative = rng.between(20, 80);
@@ -182,13 +182,9 @@ fn planted(rng: &mut Rng) -> SignedGraph {
             rng.pick(&[0, 0, 2, 5, 15])
         };
         sign_noise(rng, &mut clique, noise);
-        for u in 0..n {
-            for v in u + 1..n {
-                if clique.is_edge(u, v) {
-                    graph.remove(u, v);
-                    graph.add(u, v, clique.is_positive(u, v));
-                }
-            }
+        for (u, v, positive) in clique.edges() {
+            graph.remove(u, v);
+            graph.add(u, v, positive);
         }
     }
     graph
@@ -277,10 +273,16 @@ fn sparse_signs(rng: &mut Rng) -> SignedGraph {
     with_density(rng, n, 100, negative)
 }
 
-/// A forest: most vertices have an edge with the one before or with any earlier one.
+/// A forest in which most vertices have an edge with the one before or with any earlier one.
 fn thin(rng: &mut Rng) -> SignedGraph {
     let n = size(rng, 64);
     let (density, near) = (rng.between(40, 100), rng.below(101));
+    forest(rng, n, density, near)
+}
+
+/// A forest of n vertices: with a chance `density` in percent a vertex has an edge with an earlier one, and with a
+/// chance `near` in percent that is the one before.
+pub fn forest(rng: &mut Rng, n: u64, density: u64, near: u64) -> SignedGraph {
     let mut graph = SignedGraph::new(n);
     for v in 1..n {
         if rng.chance(density) {

@@ -2,7 +2,7 @@
 
 use super::graphs::{size, some_vertices};
 use super::random::Rng;
-use super::traps::relabelled;
+use super::traps::shuffled;
 use crate::reference::{vertices, SignedGraph};
 
 /// The graph, which one time in four is given isolated vertices: some vertices lose their edges, or
@@ -17,9 +17,7 @@ pub fn isolating(rng: &mut Rng, mut graph: SignedGraph, most: u64) -> SignedGrap
         }
         1 => {
             graph.n = rng.between(graph.n, most);
-            let mut labels: Vec<u64> = (0..graph.n).collect();
-            rng.shuffle(&mut labels);
-            relabelled(&graph, &labels)
+            shuffled(rng, &graph)
         }
         _ => graph,
     }

@@ -210,6 +210,13 @@ pub fn relabelled(graph: &SignedGraph, labels: &[u64]) -> SignedGraph {
     renamed_graph
 }
 
+/// The graph with its labels in a random order.
+pub fn shuffled(rng: &mut Rng, graph: &SignedGraph) -> SignedGraph {
+    let mut labels: Vec<u64> = (0..graph.n).collect();
+    rng.shuffle(&mut labels);
+    relabelled(graph, &labels)
+}
+
 /// Two graphs side by side, with every edge between them of one sign.
 fn beside(one: &SignedGraph, other: &SignedGraph, positive: bool) -> SignedGraph {
     let mut graph = SignedGraph::new(one.n + other.n);

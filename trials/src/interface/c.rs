@@ -34,6 +34,8 @@ extern "C" {
         k: u64,
         reduced: *mut u64,
         reduced_words: usize,
+        answer: *mut u64,
+        answer_words: usize,
     ) -> u64;
     pub fn mastpickle_list_page(
         graph: *const u64,

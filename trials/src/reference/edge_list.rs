@@ -62,14 +62,9 @@ pub fn encode(graph: &SignedGraph, buffer: &mut [u8]) -> Result<usize, u64> {
         return Err(10);
     }
     let mut form = vec![OPEN, graph.n as u8];
-    for a in 0..graph.n {
-        for b in a + 1..graph.n {
-            if graph.is_positive(a, b) {
-                form.extend([POSITIVE, a as u8, b as u8]);
-            } else if graph.is_negative(a, b) {
-                form.extend([NEGATIVE, a as u8, b as u8]);
-            }
-        }
+    for (a, b, positive) in graph.edges() {
+        let command = if positive { POSITIVE } else { NEGATIVE };
+        form.extend([command, a as u8, b as u8]);
     }
     form.push(CLOSE);
     if buffer.len() < form.len() {

@@ -12,6 +12,9 @@ pub struct SignedGraph {
     pub negative: [u64; 64],
 }
 
+/// An edge: its two vertices, the lower first, and whether it is positive.
+pub type Edge = (u64, u64, bool);
+
 /// Whether vertex v is in the set.
 pub fn holds(set: u64, v: u64) -> bool {
     v < 64 && (set >> v) & 1 == 1
@@ -30,6 +33,24 @@ impl SignedGraph {
             positive: [0; 64],
             negative: [0; 64],
         }
+    }
+
+    /// The graph of n vertices with these edges.
+    pub fn with_edges(n: u64, edges: &[Edge]) -> SignedGraph {
+        let mut graph = SignedGraph::new(n);
+        for &(u, v, positive) in edges {
+            graph.add(u, v, positive);
+        }
+        graph
+    }
+
+    /// The edges of a sound graph, ascending.
+    pub fn edges(&self) -> Vec<Edge> {
+        (0..self.n)
+            .flat_map(|u| (u + 1..self.n).map(move |v| (u, v)))
+            .filter(|&(u, v)| self.is_edge(u, v))
+            .map(|(u, v)| (u, v, self.is_positive(u, v)))
+            .collect()
     }
 
     /// Whether u and v have a positive edge (track).

@@ -12,10 +12,10 @@ mod reduce;
 pub use classify::{classify, Verdict};
 pub use counts::{check_count, count, counts_of};
 pub use edge_list::{decode, encode};
-pub use graph::{check, vertices, SignedGraph};
+pub use graph::{check, vertices, Edge, SignedGraph};
 pub use groups::{groups, groups_by_cover, groups_by_subsets, left_first, meets, split};
 pub use pages::{
     comes_before, largest, list_page, listing_order, page_of, record_at, Bookmark, Page,
 };
 pub use program::program;
-pub use reduce::{fits, reduce};
+pub use reduce::{fits, reduce, round, rounds, Reduced, Round};

@@ -1,6 +1,5 @@
 //! Cases worked out by hand, which hold the reference itself.
 
-use super::reference::edges;
 use crate::reference::*;
 
 /// Checks the reference on all of them.
@@ -20,6 +19,16 @@ const THREE: [u8; 12] = [0x10, 3, 0x22, 0, 1, 0x22, 0, 2, 0x22, 1, 2, 0xff];
 
 /// One edge among 62 isolated vertices.
 const EDGE: [u8; 6] = [0x10, 64, 0x22, 63, 5, 0xff];
+
+/// A path: positive, negative, positive.
+const PATH: [u8; 12] = [0x10, 4, 0x21, 0, 1, 0x22, 1, 2, 0x21, 2, 3, 0xff];
+
+/// The groups 2 4 | 3 5, 0 2 | 6 7 and 1 3 | 6 7 for 2; the edge 0,1, which fails for 2; and 1,2, which then fails.
+const TAIL: [u8; 60] = [
+    0x10, 8, 0x22, 0, 1, 0x22, 1, 2, 0x21, 2, 4, 0x22, 2, 3, 0x22, 2, 5, 0x22, 4, 3, 0x22, 4, 5,
+    0x21, 3, 5, 0x21, 0, 2, 0x21, 1, 3, 0x21, 6, 7, 0x22, 0, 6, 0x22, 0, 7, 0x22, 1, 6, 0x22, 1, 7,
+    0x22, 2, 6, 0x22, 2, 7, 0x22, 3, 6, 0x22, 3, 7, 0xff,
+];
 
 /// An edge list and what decoding it must give: a refusal and its place, or nothing.
 type Tried = (&'static [u8], Option<(u64, usize)>);
@@ -92,14 +101,44 @@ fn worked_graphs() -> Result<(), String> {
         }
     }
     let a = decode(&A).expect("A is valid");
-    let kept = |k| reduce(&a, k).map(|kept| edges(&kept).len());
-    if (kept(1), kept(2)) != (Ok(8), Ok(6)) {
-        return Err("A is reduced to other edges".to_string());
-    }
+    worked_reductions()?;
     worked_verdicts(&a)?;
     worked_pages(&a)?;
     worked_counts(&a)?;
     worked_isolated()
+}
+
+/// Reductions: an edge list, a threshold, how many edges are kept, and at how many vertices and edges each round looks.
+const REDUCTIONS: [(&[u8], u64, usize, &[u64]); 16] = [
+    (&A, 0, 8, &[5 + 8]),
+    (&A, 1, 8, &[5 + 8]),
+    (&A, 2, 6, &[5 + 8, 3 + 5]),
+    (&A, 3, 0, &[5 + 8, 5]),
+    (&A, 32, 0, &[5 + 8, 5]),
+    (&THREE, 0, 3, &[3 + 3]),
+    (&THREE, 1, 3, &[3 + 3]),
+    (&THREE, 2, 0, &[3 + 3, 3]),
+    (&EDGE, 0, 1, &[64 + 1]),
+    (&EDGE, 2, 0, &[64 + 1, 2]),
+    (&PATH, 0, 3, &[4 + 3]),
+    (&PATH, 1, 1, &[4 + 3, 4 + 1]),
+    (&TAIL, 2, 17, &[8 + 19, 2 + 7, 2 + 9]),
+    (&[0x10, 0, 0xff], 0, 0, &[0]),
+    (&[0x10, 0, 0xff], 2, 0, &[0]),
+    (&[0x10, 64, 0xff], 32, 0, &[64]),
+];
+
+fn worked_reductions() -> Result<(), String> {
+    for (list, k, kept, looks) in REDUCTIONS {
+        let graph = decode(list).expect("the list is valid");
+        let by_round: Vec<u64> = rounds(&graph, k).iter().map(|round| round.looks).collect();
+        let reduced = reduce(&graph, k).expect("the graph is sound");
+        let found = (reduced.graph.edges().len(), reduced.looks);
+        if by_round != looks || found != (kept, looks.iter().sum()) {
+            return Err(format!("{list:x?} for {k} is reduced to {found:?}"));
+        }
+    }
+    Ok(())
 }
 
 fn worked_verdicts(a: &SignedGraph) -> Result<(), String> {

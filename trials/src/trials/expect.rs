@@ -1,7 +1,7 @@
 //! What each call of the interface must leave, worked out by the reference from the contents before the call.
 
 use crate::interface::{Outcome, Place, GRAPH_WORDS};
-use crate::reference::{self, Bookmark, SignedGraph, Verdict};
+use crate::reference::{self, Bookmark, Reduced, SignedGraph, Verdict};
 
 const SHORT_GRAPH: u64 = 101;
 const SHORT_ANSWER: u64 = 102;
@@ -147,20 +147,24 @@ pub fn classify(graph: &[u64], k: u64, set: u64, answer: &[u64]) -> Outcome {
     outcome
 }
 
-pub fn reduce(graph: &[u64], k: u64, reduced: &[u64]) -> Outcome {
+pub fn reduce(graph: &[u64], k: u64, reduced: &[u64], answer: &[u64]) -> Outcome {
+    let mut outcome = Outcome {
+        graph: reduced.to_vec(),
+        answer: answer.to_vec(),
+        ..only(0)
+    };
     if graph.len() < GRAPH_WORDS || reduced.len() < GRAPH_WORDS {
-        return Outcome {
-            graph: reduced.to_vec(),
-            ..only(SHORT_GRAPH)
-        };
+        outcome.number = SHORT_GRAPH;
+    } else if answer.is_empty() {
+        outcome.number = SHORT_ANSWER;
+    } else {
+        let found = reference::reduce(&graph_of(graph), k);
+        outcome.number = found.as_ref().err().copied().unwrap_or(0);
+        let found = found.unwrap_or(Reduced::nothing());
+        outcome.graph = with_start(reduced, &words(&found.graph));
+        outcome.answer = with_start(answer, &[found.looks]);
     }
-    let kept = reference::reduce(&graph_of(graph), k);
-    let number = kept.as_ref().err().copied().unwrap_or(0);
-    let kept = kept.unwrap_or(SignedGraph::new(0));
-    Outcome {
-        graph: with_start(reduced, &words(&kept)),
-        ..only(number)
-    }
+    outcome
 }
 
 /// A page, given the graph's groups for k where the call is not refused.

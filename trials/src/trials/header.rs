@@ -56,7 +56,7 @@ pub const FUNCTIONS: [(&str, usize); 11] = [
     ("decode", 6),
     ("encode", 6),
     ("classify", 6),
-    ("reduce", 5),
+    ("reduce", 7),
     ("list_page", 9),
     ("largest", 5),
     ("record_at", 5),

@@ -44,6 +44,7 @@ const fn trial(
 /// All trials; the longest come first, so that two threads share the work evenly.
 pub const TRIALS: [Trial; 26] = [
     trial("program", 6_000, program::run),
+    trial("reduce", 150_000, with_graphs::reduce),
     trial("page_lists", 30_000, page_lists::run),
     trial("many_groups", 60, many_groups::run),
     trial("traps", 5, traps::run),
@@ -53,7 +54,6 @@ pub const TRIALS: [Trial; 26] = [
     trial("classify", 150_000, with_graphs::classify),
     trial("streams", 1, streams::run),
     trial("count", 40_000, with_counts::count),
-    trial("reduce", 150_000, with_graphs::reduce),
     trial("decode", 150_000, with_lists::decode),
     trial("stack", 3_000, stack::run),
     trial("encode", 60_000, with_lists::encode),

@@ -4,18 +4,26 @@ use super::by_hand;
 use super::expect::words;
 use super::isolated::{count_isolated, ISOLATED};
 use super::tally::{each_case, hex_words, Tally};
-use crate::generate::{sets_to_count, small_graph, Rng};
+use crate::generate::{falling, sets_to_count, small_graph, with_tail, Rng};
 use crate::reference::*;
 
 pub fn run(seed: u64, amount: u64) -> Result<Tally, String> {
     by_hand::check()?;
     let tally = each_case("reference", seed, amount, |rng, tally| {
         let graph = small_graph(rng);
-        one_graph(rng, tally, &graph)
-            .map_err(|fault| format!("{fault}: {}", hex_words(&words(&graph))))
+        one_graph(rng, tally, &graph).map_err(|fault| at(&graph, fault))?;
+        let (graph, k) = falling(rng);
+        rounds_everywhere(tally, &graph, k).map_err(|fault| at(&graph, fault))?;
+        let (graph, k, falling) = with_tail(rng);
+        one_a_round(&graph, k, falling).map_err(|fault| at(&graph, fault))
     })?;
     tally.each_counted(&[ISOLATED])?;
     Ok(tally)
+}
+
+/// A fault with its graph.
+fn at(graph: &SignedGraph, fault: String) -> String {
+    format!("{fault}: {}", hex_words(&words(graph)))
 }
 
 fn one_graph(rng: &mut Rng, tally: &mut Tally, graph: &SignedGraph) -> Result<(), String> {
@@ -27,10 +35,11 @@ fn one_graph(rng: &mut Rng, tally: &mut Tally, graph: &SignedGraph) -> Result<()
     count_isolated(tally, graph, 0);
     let k = rng.pick(&[0, 0, 1, 2, 3, 4]);
     let due: Vec<(u64, u64)> = all.into_iter().filter(|&sides| meets(sides, k)).collect();
-    let reduced = reduce(graph, k).expect("the graph is sound");
+    let reduced = reduce(graph, k).expect("the graph is sound").graph;
     if groups(&reduced, k) != due {
         return Err(format!("reduced for {k} it has other groups"));
     }
+    rounds_everywhere(tally, graph, k)?;
     let set = rng.next() & ((1 << graph.n) - 1);
     if split(graph, set) != split_by_trying(graph, set) {
         return Err(format!("{set:x} has another split"));
@@ -40,11 +49,36 @@ fn one_graph(rng: &mut Rng, tally: &mut Tally, graph: &SignedGraph) -> Result<()
         return Err(format!("{sets:x?} have other counts for {k}"));
     }
     verdicts(graph, k, &due)?;
-    if graph.n <= 6 && edges(graph).len() <= 10 {
+    if graph.n <= 6 && graph.edges().len() <= 10 {
         tally.count("reductions over all collections");
         if reduced != union_of_fitting(graph, k) {
             return Err(format!("reduced for {k} is not the largest that fits"));
         }
+    }
+    Ok(())
+}
+
+/// Holds each round to one that looks at all vertices and edges: it drops the same.
+fn rounds_everywhere(tally: &mut Tally, graph: &SignedGraph, k: u64) -> Result<(), String> {
+    let everywhere: Vec<u64> = (0..graph.n).collect();
+    let mut start = graph.edges();
+    for narrow in rounds(graph, k) {
+        let wide = round(graph.n, k, &start, &everywhere);
+        if narrow.dropped != wide.dropped || narrow.looks > wide.looks {
+            return Err(format!("rounds for {k} that look everywhere are others"));
+        }
+        tally.count("rounds");
+        start = narrow.kept;
+    }
+    Ok(())
+}
+
+/// Holds a clique with a tail to what it is made for: so many rounds drop one edge each.
+fn one_a_round(graph: &SignedGraph, k: u64, falling: usize) -> Result<(), String> {
+    let rounds = rounds(graph, k);
+    let dropped: Vec<usize> = rounds.iter().map(|round| round.dropped.len()).collect();
+    if dropped != [vec![1; falling], vec![0]].concat() {
+        return Err(format!("rounds for {k} drop {dropped:?}"));
     }
     Ok(())
 }
@@ -101,20 +135,13 @@ fn split_by_trying(graph: &SignedGraph, set: u64) -> Option<(u64, u64)> {
     }
 }
 
-pub fn edges(graph: &SignedGraph) -> Vec<(u64, u64)> {
-    (0..graph.n)
-        .flat_map(|u| (u + 1..graph.n).map(move |v| (u, v)))
-        .filter(|&(u, v)| graph.is_edge(u, v))
-        .collect()
-}
-
 /// All edges that are in some collection that fits, every collection tried.
 fn union_of_fitting(graph: &SignedGraph, k: u64) -> SignedGraph {
-    let edges = edges(graph);
+    let edges = graph.edges();
     let mut union = SignedGraph::new(graph.n);
     for chosen in 0..1u64 << edges.len() {
         let mut part = graph.clone();
-        for (i, &(u, v)) in edges.iter().enumerate() {
+        for (i, &(u, v, _)) in edges.iter().enumerate() {
             if chosen >> i & 1 == 0 {
                 part.remove(u, v);
             }

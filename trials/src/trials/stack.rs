@@ -143,7 +143,11 @@ impl Arrays {
                 c::mastpickle_classify as _,
                 &[&g, &[k, set], &answer],
             ),
-            call("reduce", c::mastpickle_reduce as _, &[&g, &[k], &written]),
+            call(
+                "reduce",
+                c::mastpickle_reduce as _,
+                &[&g, &[k], &written, &answer],
+            ),
             call(
                 "list_page",
                 c::mastpickle_list_page as _,

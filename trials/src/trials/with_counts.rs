@@ -129,7 +129,10 @@ pub fn count_lengths(seed: u64, amount: u64) -> Result<Tally, String> {
     })?;
     tally.each_refused(&[13, 14])?;
     tally.each_counted(&NOTED.map(|(_, _, note)| note))?;
-    tally.cases *= AROUND.map(|sets| around(sets).count() as u64).iter().sum::<u64>();
+    tally.cases *= AROUND
+        .map(|sets| around(sets).count() as u64)
+        .iter()
+        .sum::<u64>();
     Ok(tally)
 }
 
@@ -157,7 +160,7 @@ fn agree(rng: &mut Rng, graph: &SignedGraph, k: u64, all: &[(u64, u64)]) -> Resu
         let sets = hex_words(&sets);
         return Err(format!("{number} groups, and for {sets} {found:x?}"));
     }
-    let reduced = interface::reduce(rng, &array, k, &[9; GRAPH_WORDS])?;
+    let reduced = interface::reduce(rng, &array, k, &[9; GRAPH_WORDS], &[9])?;
     let again = interface::count(rng, &reduced.graph, k, &sets, &counts)?;
     if again != found {
         return Err(format!("reduced {again:x?}, and not reduced {found:x?}"));

@@ -4,9 +4,11 @@ use super::arrays::{any_graph, graph_array, room, same};
 use super::expect::{self, graph_of, words};
 use super::isolated::{count_isolated, KINDS};
 use super::tally::{each_case, hex_words, Tally};
-use crate::generate::{self, set_to_classify, threshold, threshold_near, unsound, UNSOUND_KINDS};
-use crate::interface::{self, GRAPH_WORDS};
-use crate::reference::{classify as classified, split, SignedGraph, Verdict};
+use crate::generate::{
+    self, falling, set_to_classify, threshold, threshold_near, unsound, UNSOUND_KINDS,
+};
+use crate::interface::{self, Outcome, GRAPH_WORDS};
+use crate::reference::{classify as classified, rounds, split, SignedGraph, Verdict};
 
 pub fn new(seed: u64, amount: u64) -> Result<Tally, String> {
     let tally = each_case("new", seed, amount, |rng, tally| {
@@ -117,34 +119,64 @@ fn verdict_name(verdict: &Verdict, k: u64) -> &'static str {
     }
 }
 
+/// Both a graph and the answer have too few words: the graph is told of.
+const BOTH_SHORT: &str = "with short graph and answer";
+
+/// What reducing leaves, each of which has to come up.
+const LEFT: [&str; 3] = ["left whole", "left with some edges", "left without edges"];
+
+/// Numbers of rounds that have to come up, where edges are dropped.
+const ROUNDS: [&str; 3] = ["of 2 rounds", "of 3 to 5 rounds", "of over 5 rounds"];
+
 pub fn reduce(seed: u64, amount: u64) -> Result<Tally, String> {
     let tally = each_case("reduce", seed, amount, |rng, tally| {
-        let graph = any_graph(rng);
+        let (graph, k) = if rng.chance(40) {
+            falling(rng)
+        } else {
+            (any_graph(rng), threshold(rng))
+        };
         let graph = graph_array(rng, &graph);
-        let k = threshold(rng);
         let reduced = room(rng, GRAPH_WORDS);
-        let must = expect::reduce(&graph, k, &reduced);
-        tally.count_number(must.number);
-        if must.number == 0 {
-            tally.count(what_was_dropped(&graph_of(&graph), &graph_of(&must.graph)));
-        }
-        let left = interface::reduce(rng, &graph, k, &reduced);
+        let answer = room(rng, 1);
+        let must = expect::reduce(&graph, k, &reduced, &answer);
+        note_reduced(tally, &graph, k, &must);
+        let left = interface::reduce(rng, &graph, k, &reduced, &answer);
         same(
             || format!("reduce {} k {k:x}", hex_words(&graph)),
             left,
             &must,
         )
     })?;
-    tally.each_refused(&[10, 11, 101])?;
+    tally.each_refused(&[10, 11, 101, 102])?;
+    tally.each_counted(&[BOTH_SHORT])?;
+    tally.each_counted(&LEFT)?;
+    tally.each_counted(&ROUNDS)?;
     Ok(tally)
 }
 
-fn what_was_dropped(graph: &SignedGraph, reduced: &SignedGraph) -> &'static str {
-    if reduced == graph {
-        "left whole"
-    } else if *reduced == SignedGraph::new(graph.n) {
-        "left without edges"
-    } else {
-        "left with some edges"
+/// Notes what reducing a graph for k must leave, and in how many rounds.
+fn note_reduced(tally: &mut Tally, graph: &[u64], k: u64, must: &Outcome) {
+    tally.count_number(must.number);
+    if must.number == 101 && must.answer.is_empty() {
+        tally.count(BOTH_SHORT);
     }
+    if must.number != 0 {
+        return;
+    }
+    let graph = graph_of(graph);
+    let reduced = graph_of(&must.graph);
+    tally.count(if reduced == graph {
+        LEFT[0]
+    } else if reduced != SignedGraph::new(graph.n) {
+        LEFT[1]
+    } else {
+        LEFT[2]
+    });
+    match rounds(&graph, k).len() {
+        0 | 1 => {}
+        2 => tally.count(ROUNDS[0]),
+        3..=5 => tally.count(ROUNDS[1]),
+        _ => tally.count(ROUNDS[2]),
+    }
+    tally.add("looks", must.answer[0]);
 }
