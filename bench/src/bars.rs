@@ -1,6 +1,7 @@
 //! The bars that the library is held to.
 
 use crate::measure::Case;
+use crate::reduction::{Kind, Reductions};
 use crate::results::{
     by_pages, counting_most, counting_one, of_cliquer, of_mbcenum, over_igraph, slowest_page,
     Results,
@@ -8,12 +9,13 @@ use crate::results::{
 use crate::table::{mean, milliseconds, ratio, Table};
 use crate::traps::Call;
 
-/// Whether a number has to be at least or at most the bar.
+/// Whether a number has to be at least the bar, at most or below.
 enum Side {
     AtLeast,
     AtMost,
+    Below,
 }
-use Side::{AtLeast, AtMost};
+use Side::{AtLeast, AtMost, Below};
 
 /// A bar: what it is about, its number, and what was measured, none where a peer is missing.
 struct Bar {
@@ -30,6 +32,7 @@ impl Bar {
             (None, _) => "not measured",
             (Some(found), AtLeast) if found >= self.number => "pass",
             (Some(found), AtMost) if found <= self.number => "pass",
+            (Some(found), Below) if found < self.number => "pass",
             _ => "miss",
         }
     }
@@ -45,15 +48,26 @@ fn milliseconds_unit(seconds: f64) -> String {
 
 /// The bars as a table.
 pub fn table(results: &Results) -> Table {
-    let mut table = Table::new(&["Bar", "Asked", "Measured", "Verdict"]);
-    for bar in listing(results)
+    let bars = listing(results)
         .into_iter()
         .chain(largest_and_pages(results))
         .chain(counting(results))
-    {
+        .chain(reduction(&results.reductions));
+    table_of(bars)
+}
+
+/// The bars of the reduction as a table.
+pub fn reduction_table(reductions: &Reductions) -> Table {
+    table_of(reduction(reductions))
+}
+
+fn table_of(bars: impl IntoIterator<Item = Bar>) -> Table {
+    let mut table = Table::new(&["Bar", "Asked", "Measured", "Verdict"]);
+    for bar in bars {
         let sign = match bar.side {
             AtLeast => "≥",
             AtMost => "≤",
+            Below => "<",
         };
         table.row([
             bar.what.clone(),
@@ -110,10 +124,41 @@ fn counting(results: &Results) -> Vec<Bar> {
     ]
 }
 
+/// The bars of the reduction.
+fn reduction(reductions: &Reductions) -> Vec<Bar> {
+    let highest = |kinds: &[Kind]| {
+        let families = reductions.families.iter();
+        let families = families.filter(|family| kinds.contains(&family.kind));
+        Some(most(families.map(|family| family.worst().ratio())))
+    };
+    let sparse = highest(&[Kind::Sparse]);
+    let tails = highest(&[Kind::Tail]);
+    let all = highest(&[Kind::Sparse, Kind::Tail, Kind::Other]);
+    let slowest = Some(reductions.slowest.library);
+    vec![
+        below(
+            "reduction / fixpoint, the highest sparse graph",
+            1.0,
+            sparse,
+        ),
+        below("reduction / fixpoint, the highest tail", 1.0, tails),
+        at_most("reduction / fixpoint, the highest graph", 1.1, all),
+        within("reduction, the slowest found", 0.001, slowest),
+    ]
+}
+
 /// A bar for a ratio that is not to be lower.
 fn at_least(what: &str, number: f64, found: Option<f64>) -> Bar {
     Bar {
         side: AtLeast,
+        ..at_most(what, number, found)
+    }
+}
+
+/// A bar for a ratio that has to be lower.
+fn below(what: &str, number: f64, found: Option<f64>) -> Bar {
+    Bar {
+        side: Below,
         ..at_most(what, number, found)
     }
 }

@@ -47,16 +47,23 @@ fn batches_for(seconds: f64) -> u32 {
     }
 }
 
+/// The seconds of a batch of so many calls; of more where these are too short.
+fn batch(mut call: impl FnMut(), calls: &mut u32) -> f64 {
+    loop {
+        let seconds = once(|| (0..*calls).for_each(|_| call()));
+        if seconds >= BATCH {
+            return seconds;
+        }
+        *calls *= 2;
+    }
+}
+
 /// The seconds of a call, in the best of several batches.
 pub fn best(mut call: impl FnMut()) -> f64 {
     let (mut calls, mut batches) = (1, 0);
     let (mut least, mut spent) = (f64::INFINITY, 0.0);
     loop {
-        let seconds = once(|| (0..calls).for_each(|_| call()));
-        if seconds < BATCH {
-            calls *= 2;
-            continue;
-        }
+        let seconds = batch(&mut call, &mut calls);
         least = least.min(seconds / f64::from(calls));
         spent += seconds;
         batches += 1;
@@ -64,4 +71,20 @@ pub fn best(mut call: impl FnMut()) -> f64 {
             return least;
         }
     }
+}
+
+/// How many batches each of several calls has in turn.
+const TURNS: usize = 10;
+
+/// The seconds of each of several calls, in the best of its batches. The batches go in turn, so that what else the machine
+/// does falls on all.
+pub fn best_in_turn<const N: usize>(mut calls: [&mut dyn FnMut(); N]) -> [f64; N] {
+    let (mut least, mut sizes) = ([f64::INFINITY; N], [1; N]);
+    for _ in 0..TURNS {
+        for i in 0..N {
+            let seconds = batch(&mut calls[i], &mut sizes[i]);
+            least[i] = least[i].min(seconds / f64::from(sizes[i]));
+        }
+    }
+    least
 }

@@ -30,7 +30,7 @@ pub const FAMILIES: [Family; 9] = [
     family("Moon-Moser, 12 triples", twelve_triples),
 ];
 
-const fn family(name: &'static str, make: fn(&mut Rng) -> SignedGraph) -> Family {
+pub const fn family(name: &'static str, make: fn(&mut Rng) -> SignedGraph) -> Family {
     Family { name, make }
 }
 
@@ -38,12 +38,16 @@ const fn family(name: &'static str, make: fn(&mut Rng) -> SignedGraph) -> Family
 fn two_sides(rng: &mut Rng, density: u64) -> SignedGraph {
     let labels = shuffled(rng);
     let side = labels[..32].iter().fold(0, |set, &v| set | 1 << v);
-    let balanced = balanced_on(64, u64::MAX, side);
+    thinned(rng, &balanced_on(64, u64::MAX, side), density, 5)
+}
+
+/// Edges of a graph with a density, some of them, in percent, with the wrong sign.
+pub fn thinned(rng: &mut Rng, whole: &SignedGraph, density: u64, wrong: u64) -> SignedGraph {
     let mut graph = SignedGraph::new(64);
     for u in 0..64 {
         for v in u + 1..64 {
-            if rng.chance(density) {
-                graph.add(u, v, balanced.is_positive(u, v) != rng.chance(5));
+            if whole.is_edge(u, v) && rng.chance(density) {
+                graph.add(u, v, whole.is_positive(u, v) != rng.chance(wrong));
             }
         }
     }
@@ -58,7 +62,7 @@ fn twelve_triples(rng: &mut Rng) -> SignedGraph {
 }
 
 /// The vertices in a random order.
-fn shuffled(rng: &mut Rng) -> Vec<u64> {
+pub fn shuffled(rng: &mut Rng) -> Vec<u64> {
     let mut labels: Vec<u64> = (0..64).collect();
     rng.shuffle(&mut labels);
     labels

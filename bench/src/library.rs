@@ -1,6 +1,6 @@
 //! The library's calls on arrays that are made beforehand.
 
-use mastpickle_trials::interface::c;
+use mastpickle_trials::interface::{c, GRAPH_WORDS};
 use mastpickle_trials::reference::SignedGraph;
 use mastpickle_trials::trials::words;
 
@@ -23,15 +23,18 @@ pub struct Answer {
     pub next: Option<Place>,
 }
 
-/// A graph as the library takes it.
+/// A graph as the library takes it: n, 64 positive rows, 64 negative rows.
+pub type Words = [u64; GRAPH_WORDS];
+
 pub struct Graph {
-    words: Vec<u64>,
+    pub words: Words,
 }
 
 impl Graph {
     pub fn new(graph: &SignedGraph) -> Graph {
+        let words = words(graph).try_into();
         Graph {
-            words: words(graph),
+            words: words.expect("a graph has so many words"),
         }
     }
 
@@ -71,6 +74,24 @@ impl Graph {
             )
         };
         assert_eq!(refused, 0, "the call is not refused");
+    }
+
+    /// Writes the graph reduced for k, and gives the looks.
+    pub fn reduce(&self, k: u64, reduced: &mut Words) -> u64 {
+        let mut answer = [0];
+        let refused = unsafe {
+            c::mastpickle_reduce(
+                self.words.as_ptr(),
+                self.words.len(),
+                k,
+                reduced.as_mut_ptr(),
+                reduced.len(),
+                answer.as_mut_ptr(),
+                answer.len(),
+            )
+        };
+        assert_eq!(refused, 0, "the call is not refused");
+        answer[0]
     }
 
     /// The sides of the largest group for k, both empty where there is none.

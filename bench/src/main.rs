@@ -9,6 +9,7 @@ mod measure;
 mod options;
 mod pages;
 mod peers;
+mod reduction;
 mod report;
 mod results;
 mod small;
@@ -16,15 +17,15 @@ mod table;
 mod traps;
 mod verdict;
 
-use families::{FAMILIES, GRAPHS};
+use families::FAMILIES;
 use measure::{Bench, Purpose, THRESHOLDS};
+use options::Part;
 use results::{Measured, Results};
-use std::ops::Range;
 use std::path::Path;
 use std::process::ExitCode;
+use verdict::Verdict;
 
-/// The graph of each family and the thresholds that are compared alone.
-const CHECKED_GRAPH: u64 = 1;
+/// The thresholds that are compared where nothing is timed.
 const CHECKED_THRESHOLDS: [u64; 2] = [0, 2];
 
 fn main() -> ExitCode {
@@ -39,15 +40,27 @@ fn main() -> ExitCode {
         traps::print_one(i, call);
         return ExitCode::SUCCESS;
     }
-    let limit = options.trap_limit;
-    let (passed, failed) = if options.check {
-        let graphs = CHECKED_GRAPH..CHECKED_GRAPH + 1;
-        run(Purpose::Comparing, graphs, &CHECKED_THRESHOLDS, limit).0
+    let purpose = if options.check {
+        Purpose::Comparing
     } else {
-        let (counts, results) = run(Purpose::Timing, 0..GRAPHS, &THRESHOLDS, limit);
-        write(&report::text(&results));
-        counts
+        Purpose::Timing
     };
+    let mut bench = Bench::new(purpose);
+    match options.only {
+        Some(Part::Reduction) => {
+            let reductions = reduction::measure(&mut bench);
+            if purpose == Purpose::Timing {
+                print!("{}", report::reduction_alone(&reductions));
+            }
+        }
+        None => {
+            let results = run(&mut bench, options.trap_limit);
+            if purpose == Purpose::Timing {
+                write(&report::text(&results));
+            }
+        }
+    }
+    let Verdict { passed, failed } = bench.verdict;
     println!("{passed} passed, {failed} failed");
     if failed > 0 {
         ExitCode::FAILURE
@@ -56,19 +69,17 @@ fn main() -> ExitCode {
     }
 }
 
-/// Measures all families and traps; gives how many comparisons passed and failed, and the times.
-fn run(
-    purpose: Purpose,
-    graphs: Range<u64>,
-    thresholds: &[u64],
-    trap_limit: f64,
-) -> ((u64, u64), Results) {
-    let mut bench = Bench::new(purpose);
+/// Measures all families, reductions and traps.
+fn run(bench: &mut Bench, trap_limit: f64) -> Results {
+    let thresholds = match bench.purpose {
+        Purpose::Timing => &THRESHOLDS[..],
+        Purpose::Comparing => &CHECKED_THRESHOLDS[..],
+    };
     small::compare(&mut bench.verdict);
     let mut measured = Vec::new();
     for family in &FAMILIES {
         let mut cases = Vec::new();
-        for i in graphs.clone() {
+        for i in bench.purpose.graphs() {
             let name = format!("{} ({})", family.name, i + 1);
             cases.push(bench.graph(&name, &family.graph(i), thresholds));
         }
@@ -77,12 +88,11 @@ fn run(
             graphs: cases,
         });
     }
-    let traps = traps::measure(trap_limit, &mut bench.verdict);
-    let results = Results {
+    Results {
         families: measured,
-        traps,
-    };
-    ((bench.verdict.passed, bench.verdict.failed), results)
+        reductions: reduction::measure(bench),
+        traps: traps::measure(trap_limit, &mut bench.verdict),
+    }
 }
 
 /// Prints the report and puts it beside the package's sources.

@@ -2,6 +2,7 @@
 
 use crate::clock;
 use crate::counting::{self, Counting};
+use crate::families::GRAPHS;
 use crate::library::{self, Graph, RECORD, START};
 use crate::pages::{self, Pages};
 use crate::peers::cliquer::Cliquer;
@@ -10,6 +11,7 @@ use crate::peers::{mbcenum, mbcsear};
 use crate::verdict::Verdict;
 use mastpickle_trials::reference::{left_first, SignedGraph};
 use std::cmp::Reverse;
+use std::ops::Range;
 
 /// The most records of a whole listing.
 const MOST_RECORDS: usize = 4_000_000;
@@ -30,11 +32,27 @@ pub enum Purpose {
 }
 
 impl Purpose {
+    /// The numbers of the graphs of each family; one graph where nothing is timed.
+    pub fn graphs(self) -> Range<u64> {
+        match self {
+            Purpose::Timing => 0..GRAPHS,
+            Purpose::Comparing => 1..2,
+        }
+    }
+
     /// The seconds of a call.
     pub fn time(self, call: impl FnMut()) -> f64 {
         match self {
             Purpose::Timing => clock::best(call),
             Purpose::Comparing => clock::once(call),
+        }
+    }
+
+    /// The seconds of each of several calls.
+    pub fn time_in_turn<const N: usize>(self, calls: [&mut dyn FnMut(); N]) -> [f64; N] {
+        match self {
+            Purpose::Timing => clock::best_in_turn(calls),
+            Purpose::Comparing => calls.map(clock::once),
         }
     }
 }

@@ -2,11 +2,12 @@
 
 use crate::bars;
 use crate::measure::{Case, THRESHOLDS};
+use crate::reduction::Reductions;
 use crate::results::{
     by_pages, counting_most, counting_one, nanoseconds_a_test, of_cliquer, of_mbcenum, of_mbcsear,
     over_igraph, slowest_page, Results,
 };
-use crate::table::{milliseconds, or_missing, ratio, Table};
+use crate::table::{microseconds, milliseconds, or_missing, ratio, Table};
 use std::process::Command;
 
 /// The whole report.
@@ -19,13 +20,24 @@ pub fn text(results: &Results) -> String {
         ("Pages of 64 records, k = 0", PAGES, pages(results)),
         ("Counting, k = 0", &counting_words, counting(results)),
         ("Other thresholds", OTHERS, thresholds(results)),
+        ("Reduction", REDUCTION, reduction(&results.reductions)),
         ("Traps", TRAPS, traps(results)),
     ];
     let mut text = format!("# Benchmark\n\n{INTRODUCTION}\n\n{}\n", machine());
     for (title, words, table) in sections {
-        text += &format!("\n## {title}\n\n{words}\n\n{}", table.text());
+        text += &section(title, words, &table);
     }
     text
+}
+
+/// The report of the reduction alone.
+pub fn reduction_alone(reductions: &Reductions) -> String {
+    let bars = section("Bars", "", &bars::reduction_table(reductions));
+    bars + &section("Reduction", REDUCTION, &reduction(reductions))
+}
+
+fn section(title: &str, words: &str, table: &Table) -> String {
+    format!("\n## {title}\n\n{words}\n\n{}", table.text())
 }
 
 const INTRODUCTION: &str = "\
@@ -57,6 +69,15 @@ the 1 set is a subset of a group. A test is whether one set lies in one group: i
 
 const OTHERS: &str = "\
 Geometric means over the graphs of a family, in milliseconds; groups are those of the first graph.";
+
+const REDUCTION: &str = "\
+Microseconds. The fixpoint looks at all vertices and edges in every round; like the call it first checks that the graph is
+sound, and was measured without this too. It counts no looks. Of each family the graph and k with the highest ratio, and the
+lowest ratio; k is 0, 1, 2, 3, 5, 8, 12 and 16, for a falling graph 2. Sparse: edges of a density, signs at random or
+balanced by random sides. Path: through all vertices, or from a group through all others; its edges fall at once. Band, tube:
+for k = 2 each edge needs two vertices beside it and has no more, so it falls round by round, from its ends or from the end
+away from the group. Planted: a group with one sign in twenty wrong, over edges of 20 %. Slowest found: for each k up to 32 a
+search changed a graph's edges at random, thousands of times, for more looks and rounds; this is the slowest of these graphs.";
 
 const TRAPS: &str = "\
 Each call runs in a process of its own, which is ended at the limit.";
@@ -271,6 +292,37 @@ fn thresholds(results: &Results) -> Table {
                 or_missing(mean(of_mbcsear), ratio),
             ]);
         }
+    }
+    table
+}
+
+fn reduction(reductions: &Reductions) -> Table {
+    let mut table = Table::new(&[
+        "Family",
+        "k",
+        "Rounds",
+        "Looks",
+        "Library",
+        "Fixpoint",
+        "Fixpoint, no check",
+        "library / fixpoint",
+        "the lowest",
+    ]);
+    let families = reductions.families.iter();
+    let worst = families.map(|family| (family.name, family.worst(), family.lowest()));
+    let slowest = &reductions.slowest;
+    for (name, case, lowest) in worst.chain([("slowest found", slowest, slowest.ratio())]) {
+        table.row([
+            name.to_string(),
+            case.k.to_string(),
+            case.looks.rounds.to_string(),
+            case.looks.looks.to_string(),
+            microseconds(case.library),
+            microseconds(case.fixpoint),
+            microseconds(case.unchecked),
+            ratio(case.ratio()),
+            ratio(lowest),
+        ]);
     }
     table
 }

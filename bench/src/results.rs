@@ -2,6 +2,7 @@
 
 use crate::counting::MOST_SETS;
 use crate::measure::Case;
+use crate::reduction::Reductions;
 use crate::table::mean;
 use crate::traps::Timed;
 
@@ -13,6 +14,7 @@ pub struct Measured {
 
 pub struct Results {
     pub families: Vec<Measured>,
+    pub reductions: Reductions,
     pub traps: Vec<Timed>,
 }
 

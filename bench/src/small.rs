@@ -1,12 +1,15 @@
 //! Holding the peers to the reference on small graphs, so that a peer's time is that of a right answer.
 
+use crate::library::Graph;
 use crate::measure::in_listing_order;
 use crate::peers::cliquer::Cliquer;
 use crate::peers::igraph::Igraph;
-use crate::peers::{mbcenum, mbcsear};
+use crate::peers::{fixpoint, mbcenum, mbcsear};
 use crate::verdict::Verdict;
-use mastpickle_trials::generate::{small_graph, Rng};
-use mastpickle_trials::reference::{groups, split, SignedGraph};
+use mastpickle_trials::generate::{small_graph, unsound, Rng, UNSOUND_KINDS};
+use mastpickle_trials::interface::GRAPH_WORDS;
+use mastpickle_trials::reference::{groups, reduce, split, SignedGraph};
+use mastpickle_trials::trials::words;
 
 const GRAPHS: u64 = 1500;
 
@@ -22,10 +25,19 @@ pub fn compare(verdict: &mut Verdict) {
     });
     let all = all.map_err(|(i, k, peer)| format!("{peer} differs on graph {i}, k = {k}"));
     verdict.take("small graphs", &all);
+    let refused = (0..GRAPHS).all(|i| {
+        let rng = &mut Rng::of_case(3, i);
+        fixpoint_reduces(&unsound(rng, i % UNSOUND_KINDS), MOST)
+            && fixpoint_reduces(&small_graph(rng), 33)
+    });
+    verdict.compare("calls that the fixpoint refuses", refused, true);
 }
 
 /// The name of the search in Rust that differs from the reference.
 fn searches(graph: &SignedGraph, k: u64) -> Result<(), &'static str> {
+    if !fixpoint_reduces(graph, k) {
+        return Err("the fixpoint");
+    }
     let expected = groups(graph, k);
     let mut found = Vec::new();
     mbcenum::groups(graph, k, &mut found);
@@ -41,6 +53,13 @@ fn searches(graph: &SignedGraph, k: u64) -> Result<(), &'static str> {
     } else {
         Err("MBCSear-SSP*")
     }
+}
+
+/// Whether the fixpoint gives the reduced graph, or refuses, as the reference does.
+fn fixpoint_reduces(graph: &SignedGraph, k: u64) -> bool {
+    let mut reduced = [u64::MAX; GRAPH_WORDS];
+    let found = fixpoint::reduce(&Graph::new(graph).words, k, &mut reduced);
+    found.map(|()| reduced.to_vec()) == reduce(graph, k).map(|reduced| words(&reduced.graph))
 }
 
 /// The name of the peer in C that differs from the reference for threshold 0.

@@ -58,6 +58,11 @@ pub fn milliseconds(seconds: f64) -> String {
     format!("{value:.places$}")
 }
 
+/// Seconds as microseconds, likewise.
+pub fn microseconds(seconds: f64) -> String {
+    milliseconds(seconds * 1e3)
+}
+
 pub fn ratio(value: f64) -> String {
     if value >= 100.0 {
         format!("{value:.0}")

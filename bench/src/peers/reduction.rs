@@ -1,6 +1,6 @@
 //! Dropping what no group of the wanted sizes can use, before a search.
 
-use super::sets::{members, size};
+use super::sets::{above, members, size};
 use mastpickle_trials::reference::SignedGraph;
 
 /// The sizes that a search looks for: both sides at least `smaller`, one of them at least `larger`, and more vertices than
@@ -46,7 +46,7 @@ pub fn edge_reduction(graph: &mut SignedGraph, sizes: Sizes) {
         again = false;
         for u in 0..graph.n as usize {
             let (positive, negative) = (graph.positive[u], graph.negative[u]);
-            for v in members((positive | negative) & !((2u64 << u).wrapping_sub(1))) {
+            for v in members((positive | negative) & above(u)) {
                 if !edge_fits(graph, sizes, u, v) {
                     graph.remove(u as u64, v as u64);
                     again = true;

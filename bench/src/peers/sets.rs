@@ -21,3 +21,8 @@ pub fn below(n: u64) -> u64 {
         (1 << n) - 1
     }
 }
+
+/// The vertices above v.
+pub fn above(v: usize) -> u64 {
+    !1 << v
+}
