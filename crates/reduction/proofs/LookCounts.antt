@@ -19,7 +19,7 @@ use Rattle.vertex_set.proofs.LowestVertex.{rest, rest-lt, mem-rest, lowest-in, 
 use Rattle.vertex_set.proofs.Traversals.{Traversal, traversal-begin, rest-above, above-rest, traversal-step}
 use Rattle.signed_graph.specs.declared.SignedGraph.{SignedGraph}
 use Rattle.signed_graph.specs.Graphs.{edge}
-use Rattle.signed_graph.proofs.Soundness.{Sound}
+use Rattle.signed_graph.proofs.Soundness.{Sound, edge-turned, edge-loopless}
 use Rattle.reduction.specs.Reductions.{edgesAt, looksAt}
 
 module _ (g : SignedGraph) (look : ℕ) where
@@ -34,12 +34,6 @@ module _ (g : SignedGraph) (look : ℕ) where
   -- ---- all of it: each edge with a vertex of look
 
   module _ (so : Sound g) where
-    turned : (p q : ℕ) → edge g p q ≡ edge g q p
-    turned p q = ap₂ _||_ (so .positives .symmetric p q) (so .negatives .symmetric p q)
-
-    no-loop : (p : ℕ) → edge g p p ≡ false
-    no-loop p = ap₂ _||_ (so .positives .loopless p) (so .negatives .loopless p)
-
     abbrev here : ℕ → ℕ → Bool
     here p q = mem p look && counted p q
 
@@ -52,7 +46,7 @@ module _ (g : SignedGraph) (look : ℕ) where
         go (no x) (yes y) = sym (ap₂ (λ (a b : Bool). a && here p q || b && here p q) (le-ltb q p (omega arith)) (lt-ltb p q y))
         go (no x) (no y) =
             let z : q ≡ p = omega arith in
-            let no-edge : edge g p q ≡ false = ap (edge g p) z ∙ no-loop p in
+            let no-edge : edge g p q ≡ false = ap (edge g p) z ∙ edge-loopless g so p in
             fails-right (mem p look) (counted p q) (fails-left (edge g p q) (not (mem q look && ltb p q)) no-edge)
             ∙ sym (ap₂ (λ (a b : Bool). a && here p q || b && here p q) (le-ltb q p (omega arith)) (le-ltb p q (omega arith)))
 
@@ -64,7 +58,7 @@ module _ (g : SignedGraph) (look : ℕ) where
     lower q =
         ap₂ _+_
         (count-cong (λ p. here q p) (λ p. mem q look && edge g p q) q (λ p l.
-        ap₂ (λ (a b : Bool). mem q look && (a && not (mem p look && b))) (turned q p) (le-ltb q p (omega arith))
+        ap₂ (λ (a b : Bool). mem q look && (a && not (mem p look && b))) (edge-turned g so q p) (le-ltb q p (omega arith))
         ∙ last (mem q look) (edge g p q) (mem p look)))
         (count-cong (λ p. here p q) (λ p. mem p look && (edge g p q && not (mem q look))) q (λ p l.
         ap (λ (b : Bool). mem p look && (edge g p q && not (mem q look && b))) (lt-ltb p q l)
