@@ -8,13 +8,15 @@
  * A set of vertices is balanced where every two of them have an edge and it splits in two sides,
  * positive edges inside a side and negative ones across. A group for threshold k is a balanced set
  * of two vertices or more, with at least k on each side, that no larger balanced set contains.
+ * A vertex may be masked: it keeps its edges and is in no group. A balanced set has no masked
+ * vertex, so what only a masked vertex would extend is a group.
  *
  * Numbers are 64 bits wide. A set of vertices is a number with bit p for vertex p. A graph is an
  * array of MASTPICKLE_GRAPH_WORDS words: n, then for each of 64 vertices the set of its positive
- * partners, then for each the set of its negative partners. An array may be longer than a call
- * needs: the words behind are neither read nor written.
+ * partners, then for each the set of its negative partners, and last the set of masked vertices.
+ * An array may be longer than a call needs: the words behind are neither read nor written.
  *
- * Every function returns 0 or the number of a refusal. Refusals 1 to 14 are those of the calls;
+ * Every function returns 0 or the number of a refusal. Refusals 1 to 15 are those of the calls;
  * each function says which it has and what it then writes. The numbers from 101 up are this
  * interface's own, are looked at first and in their order, and change nothing in any array.
  *
@@ -61,13 +63,13 @@ extern "C" {
 #endif
 
 /* The version of the library and of the program `groups`. */
-#define MASTPICKLE_VERSION "3.0.0"
+#define MASTPICKLE_VERSION "4.0.0"
 
 /* The words of a graph, the bytes of a record, the longest edge list that mastpickle_encode writes,
    the most sets that mastpickle_count takes, and a stack that is enough for every call. */
-#define MASTPICKLE_GRAPH_WORDS 129
+#define MASTPICKLE_GRAPH_WORDS 130
 #define MASTPICKLE_RECORD_BYTES 16
-#define MASTPICKLE_LONGEST_EDGE_LIST 6051
+#define MASTPICKLE_LONGEST_EDGE_LIST 6179
 #define MASTPICKLE_MOST_SETS 256
 #define MASTPICKLE_STACK_BYTES 61440
 
@@ -81,6 +83,7 @@ extern "C" {
 #define MASTPICKLE_REPEATED 7
 #define MASTPICKLE_UNCLOSED 8
 #define MASTPICKLE_TRAILING_BYTES 9
+#define MASTPICKLE_MASKED_TWICE 15
 
 /* Refusals of the other calls. */
 #define MASTPICKLE_UNSOUND 10
@@ -105,8 +108,8 @@ extern "C" {
 #define MASTPICKLE_MORE 1
 
 /* What mastpickle_classify says of a set, with the words that follow; those not named are 0. The
-   first that applies is said, in this order, but for MASTPICKLE_ALONE, which comes right after
-   MASTPICKLE_VERTEX_OUT_OF_RANGE. */
+   first that applies is said, in this order, but for MASTPICKLE_ALONE and then MASTPICKLE_MASKED,
+   which come right after MASTPICKLE_VERTEX_OUT_OF_RANGE. */
 #define MASTPICKLE_NO_VERDICT 0          /* the call was refused */
 #define MASTPICKLE_EMPTY 1               /* the set has no vertex */
 #define MASTPICKLE_VERTEX_OUT_OF_RANGE 2 /* its lowest vertex that the graph does not have */
@@ -116,16 +119,19 @@ extern "C" {
 #define MASTPICKLE_EXTENSIBLE 6          /* the lowest vertex whose addition keeps it balanced */
 #define MASTPICKLE_GROUP 7               /* its left and its right side */
 #define MASTPICKLE_ALONE 8               /* the set has one vertex, so it is no group */
+#define MASTPICKLE_MASKED 9              /* its lowest vertex that is masked */
 
 /*
- * Writes the graph of n vertices with no edge; the graph of no vertices where n is over 64.
+ * Writes the graph of n vertices with no edge and nothing masked; the graph of no vertices where n
+ * is over 64.
  * Returns 0, or 101.
  */
 uint64_t mastpickle_new(uint64_t n, uint64_t *graph, size_t graph_words);
 
 /*
  * Whether the graph is sound: n is at most 64, no vertex is its own partner, no partner is both
- * positive and negative, partnership is mutual, and vertices from n up have no part in it.
+ * positive and negative, partnership is mutual, and vertices from n up have no part in it and are
+ * not masked.
  * Returns 0 where it is sound and 10 where it is not, or 101.
  */
 uint64_t mastpickle_check_sound(const uint64_t *graph, size_t graph_words);
@@ -137,16 +143,17 @@ uint64_t mastpickle_check_sound(const uint64_t *graph, size_t graph_words);
 uint64_t mastpickle_check_call(const uint64_t *graph, size_t graph_words, uint64_t k);
 
 /*
- * Reads an edge list. Writes its graph, and into answer[0] 0.
- * Returns 0; or 1 to 9 where the list is refused, and then writes the graph of no vertices and into
- * answer[0] the place of the fault; or 101, 102 (one word).
+ * Reads an edge list, which gives edges and masks vertices. Writes its graph, and into answer[0] 0.
+ * Returns 0; or 1 to 9 or 15 where the list is refused, and then writes the graph of no vertices,
+ * which masks nothing, and into answer[0] the place of the fault; or 101, 102 (one word).
  */
 uint64_t mastpickle_decode(const uint8_t *bytes, size_t length, uint64_t *graph, size_t graph_words,
                            uint64_t *answer, size_t answer_words);
 
 /*
- * Writes the edge list of a graph in canonical form, lower vertex first and edges ascending, and
- * into answer[0] its length. The bytes of `out` behind it stay.
+ * Writes the edge list of a graph in canonical form, lower vertex first and edges ascending, those
+ * of masked vertices too, then the masked vertices ascending; and into answer[0] its length. The
+ * bytes of `out` behind it stay.
  * Returns 0; or 10, or 13 where `out` is shorter than the list, and then writes 0 into answer[0]
  * and no byte of `out`; or 101, 102 (one word).
  */
@@ -162,14 +169,15 @@ uint64_t mastpickle_classify(const uint64_t *graph, size_t graph_words, uint64_t
                              uint64_t *answer, size_t answer_words);
 
 /*
- * Writes the graph without the edges that no group for k can use. It has the same groups for k,
- * with the same sides.
- * Edges are dropped in rounds, up to the first that drops nothing. The first looks at all vertices
- * and all edges, each other one at the vertices of the edges dropped in the round before and at the
- * kept edges that have such a vertex. Writes into answer[0] the looks: how many vertices and edges
- * all rounds together look at.
- * Returns 0; or 10, 11, and then writes the graph of no vertices and into answer[0] 0; or 101, for
- * either graph, 102 (one word).
+ * Writes the graph without the edges that no group for k can use. It has the same masked vertices
+ * and the same groups for k, with the same sides.
+ * First all edges of masked vertices are taken out, for every k and without a look. Then edges are
+ * dropped in rounds, up to the first that drops nothing. The first looks at all vertices, masked
+ * ones too, and all edges left, each other one at the vertices of the edges dropped in the round
+ * before and at the kept edges that have such a vertex. Writes into answer[0] the looks: how many
+ * vertices and edges all rounds together look at.
+ * Returns 0; or 10, 11, and then writes the graph of no vertices, which masks nothing, and into
+ * answer[0] 0; or 101, for either graph, 102 (one word).
  */
 uint64_t mastpickle_reduce(const uint64_t *graph, size_t graph_words, uint64_t k, uint64_t *reduced,
                            size_t reduced_words, uint64_t *answer, size_t answer_words);
@@ -210,7 +218,7 @@ uint64_t mastpickle_record_at(const uint8_t *listing, size_t listing_bytes, uint
 /*
  * Writes into counts[i], for each i below sets_length, in how many groups for k the set sets[i]
  * lies: how many contain all its vertices. The empty set lies in all groups, a set with a vertex
- * that the graph does not have in none. The words of `counts` behind them stay.
+ * that is masked or that the graph does not have in none. The words of `counts` behind them stay.
  * Returns 0; or 10, 11, 13 where `counts` is shorter than `sets`, 14 where there are more than
  * MASTPICKLE_MOST_SETS sets, and then writes no word of `counts`; or 101.
  */

@@ -1,5 +1,6 @@
 //! The bars that the library is held to.
 
+use crate::masked::Page;
 use crate::measure::Case;
 use crate::reduction::{Kind, Reductions};
 use crate::results::{
@@ -52,6 +53,7 @@ pub fn table(results: &Results) -> Table {
         .into_iter()
         .chain(largest_and_pages(results))
         .chain(counting(results))
+        .chain(masked(&results.masked))
         .chain(reduction(&results.reductions));
     table_of(bars)
 }
@@ -59,6 +61,11 @@ pub fn table(results: &Results) -> Table {
 /// The bars of the reduction as a table.
 pub fn reduction_table(reductions: &Reductions) -> Table {
     table_of(reduction(reductions))
+}
+
+/// The bar of masked vertices as a table.
+pub fn masked_table(pages: &[Page]) -> Table {
+    table_of(masked(pages))
 }
 
 fn table_of(bars: impl IntoIterator<Item = Bar>) -> Table {
@@ -122,6 +129,16 @@ fn counting(results: &Results) -> Vec<Bar> {
         at_most("counting 1 set / listing, mean over families", 1.2, one),
         at_most("counting 256 sets / listing, mean over families", 4.0, most),
     ]
+}
+
+/// The bar of masked vertices.
+fn masked(pages: &[Page]) -> Vec<Bar> {
+    let highest = most(pages.iter().map(Page::ratio));
+    vec![at_most(
+        "a page, all masked / no edge, the highest k",
+        1.1,
+        Some(highest),
+    )]
 }
 
 /// The bars of the reduction.

@@ -16,6 +16,14 @@ impl Family {
     pub fn graph(&self, i: u64) -> SignedGraph {
         (self.make)(&mut Rng::of_case(1, i))
     }
+
+    /// The same graph with a quarter of its vertices masked.
+    pub fn masked(&self, i: u64) -> SignedGraph {
+        let mut graph = self.graph(i);
+        let labels = shuffled(&mut Rng::of_case(2, i));
+        labels[..16].iter().for_each(|&v| graph.mask(v));
+        graph
+    }
 }
 
 pub const FAMILIES: [Family; 9] = [

@@ -23,7 +23,7 @@ pub struct Answer {
     pub next: Option<Place>,
 }
 
-/// A graph as the library takes it: n, 64 positive rows, 64 negative rows.
+/// A graph as the library takes it: n, 64 positive rows, 64 negative rows, the masked vertices.
 pub type Words = [u64; GRAPH_WORDS];
 
 pub struct Graph {

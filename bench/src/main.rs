@@ -5,6 +5,7 @@ mod clock;
 mod counting;
 mod families;
 mod library;
+mod masked;
 mod measure;
 mod options;
 mod pages;
@@ -53,6 +54,12 @@ fn main() -> ExitCode {
                 print!("{}", report::reduction_alone(&reductions));
             }
         }
+        Some(Part::Masked) => {
+            let pages = masked::measure(&mut bench);
+            if purpose == Purpose::Timing {
+                print!("{}", report::masked_alone(&pages));
+            }
+        }
         None => {
             let results = run(&mut bench, options.trap_limit);
             if purpose == Purpose::Timing {
@@ -69,7 +76,7 @@ fn main() -> ExitCode {
     }
 }
 
-/// Measures all families, reductions and traps.
+/// Measures all families, masked vertices, reductions and traps; where nothing is timed, families with masked vertices too.
 fn run(bench: &mut Bench, trap_limit: f64) -> Results {
     let thresholds = match bench.purpose {
         Purpose::Timing => &THRESHOLDS[..],
@@ -82,6 +89,10 @@ fn run(bench: &mut Bench, trap_limit: f64) -> Results {
         for i in bench.purpose.graphs() {
             let name = format!("{} ({})", family.name, i + 1);
             cases.push(bench.graph(&name, &family.graph(i), thresholds));
+            if bench.purpose == Purpose::Comparing {
+                let name = format!("{name}, a quarter masked");
+                bench.graph(&name, &family.masked(i), thresholds);
+            }
         }
         measured.push(Measured {
             name: family.name,
@@ -90,6 +101,7 @@ fn run(bench: &mut Bench, trap_limit: f64) -> Results {
     }
     Results {
         families: measured,
+        masked: masked::measure(bench),
         reductions: reduction::measure(bench),
         traps: traps::measure(trap_limit, &mut bench.verdict),
     }

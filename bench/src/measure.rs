@@ -110,20 +110,21 @@ impl Bench {
         }
     }
 
-    /// Measures one graph at each of the thresholds.
+    /// Measures one graph at each of the thresholds. The peers get it without the edges of masked vertices.
     pub fn graph(&mut self, name: &str, graph: &SignedGraph, thresholds: &[u64]) -> Vec<Case> {
-        let igraph = self.igraph(name, graph);
+        let bare = graph.without_masked();
+        let igraph = self.igraph(name, &bare);
         let mut cases = Vec::new();
         for &k in thresholds {
             let name = format!("{name}, k = {k}");
-            let mut case = self.case(&name, graph, k);
+            let mut case = self.case(&name, graph, &bare, k);
             if let Some(igraph) = &igraph {
                 let count: u64 = igraph.by_smaller_side[k as usize..].iter().sum();
                 self.verdict
                     .compare(&format!("{name}, igraph"), count, case.groups as u64);
             }
             if k == 0 {
-                self.largest_by_cliquer(&name, graph, &mut case);
+                self.largest_by_cliquer(&name, &bare, &mut case);
                 case.igraph = igraph.as_ref().map(|igraph| igraph.times);
             }
             cases.push(case);
@@ -176,16 +177,16 @@ impl Bench {
         (seconds, groups)
     }
 
-    /// The library's listing and largest group, and those of the searches in Rust.
-    fn case(&mut self, name: &str, graph: &SignedGraph, k: u64) -> Case {
+    /// The library's listing and largest group, and those of the searches in Rust on the bare graph.
+    fn case(&mut self, name: &str, graph: &SignedGraph, bare: &SignedGraph, k: u64) -> Case {
         let given = Graph::new(graph);
         let (list, groups) = self.list(name, &given, k);
         let found = &mut self.found;
-        let mbcenum = self.purpose.time(|| mbcenum::groups(graph, k, found));
+        let mbcenum = self.purpose.time(|| mbcenum::groups(bare, k, found));
         let mut sides = (0, 0);
         let largest = self.purpose.time(|| sides = given.largest(k));
         let mut peer = (0, 0);
-        let mbcsear = self.purpose.time(|| peer = mbcsear::largest(graph, k));
+        let mbcsear = self.purpose.time(|| peer = mbcsear::largest(bare, k));
         let size = |sides: (u64, u64)| (sides.0 | sides.1).count_ones();
         let listed = library::groups(&self.out[..groups * RECORD]);
         self.compare_groups(name, &listed);

@@ -16,6 +16,7 @@ pub struct Options {
 #[derive(Clone, Copy)]
 pub enum Part {
     Reduction,
+    Masked,
 }
 
 impl FromStr for Part {
@@ -24,12 +25,14 @@ impl FromStr for Part {
     fn from_str(word: &str) -> Result<Part, ()> {
         match word {
             "reduction" => Ok(Part::Reduction),
+            "masked" => Ok(Part::Masked),
             _ => Err(()),
         }
     }
 }
 
-const USAGE: &str = "usage: mastpickle-bench [--check] [--only reduction] [--trap-limit SECONDS]";
+const USAGE: &str =
+    "usage: mastpickle-bench [--check] [--only reduction|masked] [--trap-limit SECONDS]";
 
 pub fn read(mut words: impl Iterator<Item = String>) -> Result<Options, String> {
     let mut options = Options {

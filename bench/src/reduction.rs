@@ -11,6 +11,7 @@ use crate::peers::fixpoint;
 pub use graphs::Kind;
 use looks::Looks;
 use mastpickle_trials::interface::GRAPH_WORDS;
+use mastpickle_trials::reference::SignedGraph;
 use std::ops::Range;
 
 /// How many changes the search for a slow graph tries at each threshold, and how many where nothing is timed.
@@ -95,7 +96,9 @@ pub fn measure(bench: &mut Bench) -> Reductions {
 fn families(bench: &mut Bench) -> Vec<Measured> {
     let mut families = Vec::new();
     for (kind, family) in graphs::families() {
-        let inputs = inputs(family, bench.purpose.graphs(), kind.thresholds());
+        let inputs = inputs(family.name, bench.purpose.graphs(), kind, |i| {
+            family.graph(i)
+        });
         let mut measured = Measured {
             name: family.name,
             kind,
@@ -107,21 +110,38 @@ fn families(bench: &mut Bench) -> Vec<Measured> {
                 let again = case(bench, &inputs[i]);
                 measured.cases[i].improve(&again);
             }
+        } else {
+            compare_masked(bench, kind, family);
         }
         families.push(measured);
     }
     families
 }
 
-/// The graphs of a family at each of some thresholds.
-fn inputs(family: &Family, graphs: Range<u64>, thresholds: &[u64]) -> Vec<Input> {
-    let at = |i: u64, k: u64| Input {
-        name: format!("{} ({}), k = {k}, reduction", family.name, i + 1),
-        graph: Graph::new(&family.graph(i)),
+/// Compares the graphs of a family with a quarter of their vertices masked.
+fn compare_masked(bench: &mut Bench, kind: Kind, family: &Family) {
+    let name = format!("{}, a quarter masked", family.name);
+    let inputs = inputs(&name, bench.purpose.graphs(), kind, |i| family.masked(i));
+    for input in &inputs {
+        case(bench, input);
+    }
+}
+
+/// The graphs of a family at each threshold of its kind.
+fn inputs(
+    name: &str,
+    graphs: Range<u64>,
+    kind: Kind,
+    graph: impl Fn(u64) -> SignedGraph,
+) -> Vec<Input> {
+    let at = |(i, &k): (u64, &u64)| Input {
+        name: format!("{name} ({}), k = {k}, reduction", i + 1),
+        graph: Graph::new(&graph(i)),
         k,
     };
     graphs
-        .flat_map(|i| thresholds.iter().map(move |&k| at(i, k)))
+        .flat_map(|i| kind.thresholds().iter().map(move |k| (i, k)))
+        .map(at)
         .collect()
 }
 

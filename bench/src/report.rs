@@ -1,6 +1,7 @@
 //! The report of a run, in Markdown.
 
 use crate::bars;
+use crate::masked::Page;
 use crate::measure::{Case, THRESHOLDS};
 use crate::reduction::Reductions;
 use crate::results::{
@@ -20,6 +21,7 @@ pub fn text(results: &Results) -> String {
         ("Pages of 64 records, k = 0", PAGES, pages(results)),
         ("Counting, k = 0", &counting_words, counting(results)),
         ("Other thresholds", OTHERS, thresholds(results)),
+        ("Masked vertices", MASKED, masked(&results.masked)),
         ("Reduction", REDUCTION, reduction(&results.reductions)),
         ("Traps", TRAPS, traps(results)),
     ];
@@ -34,6 +36,12 @@ pub fn text(results: &Results) -> String {
 pub fn reduction_alone(reductions: &Reductions) -> String {
     let bars = section("Bars", "", &bars::reduction_table(reductions));
     bars + &section("Reduction", REDUCTION, &reduction(reductions))
+}
+
+/// The report of masked vertices alone.
+pub fn masked_alone(pages: &[Page]) -> String {
+    let bars = section("Bars", "", &bars::masked_table(pages));
+    bars + &section("Masked vertices", MASKED, &masked(pages))
 }
 
 fn section(title: &str, words: &str, table: &Table) -> String {
@@ -69,6 +77,10 @@ the 1 set is a subset of a group. A test is whether one set lies in one group: i
 
 const OTHERS: &str = "\
 Geometric means over the graphs of a family, in milliseconds; groups are those of the first graph.";
+
+const MASKED: &str = "\
+Microseconds. A page of a graph of 64 vertices with all edges, signs at random and every vertex masked, beside one of 64
+vertices with no edge and nothing masked, in turn; neither has a group.";
 
 const REDUCTION: &str = "\
 Microseconds. The fixpoint looks at all vertices and edges in every round; like the call it first checks that the graph is
@@ -292,6 +304,19 @@ fn thresholds(results: &Results) -> Table {
                 or_missing(mean(of_mbcsear), ratio),
             ]);
         }
+    }
+    table
+}
+
+fn masked(pages: &[Page]) -> Table {
+    let mut table = Table::new(&["k", "All masked", "No edge", "all masked / no edge"]);
+    for page in pages {
+        table.row([
+            page.k.to_string(),
+            microseconds(page.all_masked),
+            microseconds(page.no_edge),
+            ratio(page.ratio()),
+        ]);
     }
     table
 }

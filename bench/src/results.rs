@@ -1,6 +1,7 @@
 //! What a whole run measured, and its means.
 
 use crate::counting::MOST_SETS;
+use crate::masked::Page;
 use crate::measure::Case;
 use crate::reduction::Reductions;
 use crate::table::mean;
@@ -14,6 +15,7 @@ pub struct Measured {
 
 pub struct Results {
     pub families: Vec<Measured>,
+    pub masked: Vec<Page>,
     pub reductions: Reductions,
     pub traps: Vec<Timed>,
 }

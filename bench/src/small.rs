@@ -39,13 +39,14 @@ fn searches(graph: &SignedGraph, k: u64) -> Result<(), &'static str> {
         return Err("the fixpoint");
     }
     let expected = groups(graph, k);
+    let bare = graph.without_masked();
     let mut found = Vec::new();
-    mbcenum::groups(graph, k, &mut found);
+    mbcenum::groups(&bare, k, &mut found);
     in_listing_order(&mut found);
     if found != expected {
         return Err("MBCEnum*");
     }
-    let (one, other) = mbcsear::largest(graph, k);
+    let (one, other) = mbcsear::largest(&bare, k);
     let sides = split(graph, one | other);
     let valid = sides == Some((one, other)) || sides == Some((other, one));
     if valid && (one | other).count_ones() == most(&expected) {
@@ -69,13 +70,14 @@ fn in_c(graph: &SignedGraph) -> Result<(), &'static str> {
     }
     let expected = groups(graph, 0);
     let count = expected.len() as u64;
-    let igraph = Igraph::new(graph).is_none_or(|igraph| {
+    let bare = graph.without_masked();
+    let igraph = Igraph::new(&bare).is_none_or(|igraph| {
         igraph.count() == count && igraph.by_smaller_side().iter().sum::<u64>() == count
     });
     if !igraph {
         return Err("igraph");
     }
-    let cliquer = Cliquer::new(graph).is_none_or(|cliquer| cliquer.largest() == most(&expected));
+    let cliquer = Cliquer::new(&bare).is_none_or(|cliquer| cliquer.largest() == most(&expected));
     cliquer.then_some(()).ok_or("cliquer")
 }
 

@@ -1,4 +1,5 @@
-/* Lists the groups of a graph for k = 1 by pages of one record, finds the largest, and counts in how many of them sets lie. */
+/* Lists the groups of a graph for k = 1 by pages of one record, finds the largest, and counts in how many of them sets lie;
+   then the same with a vertex masked. */
 #include <inttypes.h>
 #include <stdio.h>
 
@@ -61,16 +62,12 @@ static int count(const uint64_t *graph)
     return 0;
 }
 
-int main(void)
+/* Prints the groups, the largest, and the counts. */
+static int report(const uint64_t *graph)
 {
-    uint64_t graph[MASTPICKLE_GRAPH_WORDS];
-    uint64_t place;
-    uint64_t number = mastpickle_decode(edge_list, sizeof edge_list, graph, MASTPICKLE_GRAPH_WORDS, &place, 1);
-    if (number != 0)
-        return refused("decode", number);
-
     uint8_t record[MASTPICKLE_RECORD_BYTES];
     uint64_t page[4] = {0, MASTPICKLE_MORE, MASTPICKLE_START, 0};
+    uint64_t number;
     while (page[1] == MASTPICKLE_MORE) {
         number = mastpickle_list_page(graph, MASTPICKLE_GRAPH_WORDS, k, page[2], page[3], record, sizeof record, page, 4);
         if (number != 0)
@@ -88,4 +85,20 @@ int main(void)
     else
         print_group("largest", sides[0], sides[1]);
     return count(graph);
+}
+
+int main(void)
+{
+    uint64_t graph[MASTPICKLE_GRAPH_WORDS];
+    uint64_t place;
+    uint64_t number = mastpickle_decode(edge_list, sizeof edge_list, graph, MASTPICKLE_GRAPH_WORDS, &place, 1);
+    if (number != 0)
+        return refused("decode", number);
+    if (report(graph) != 0)
+        return 1;
+
+    /* 1 keeps its edges and is in no group, so nothing can be added to 0, 2 and 3. */
+    printf("with 1 masked\n");
+    graph[MASTPICKLE_GRAPH_WORDS - 1] = 1 << 1;
+    return report(graph);
 }

@@ -12,7 +12,7 @@ pub use lent::{noise, Lent};
 pub use own_stack::{OwnStack, Used};
 
 /// The words of a graph.
-pub const GRAPH_WORDS: usize = 129;
+pub const GRAPH_WORDS: usize = 130;
 
 /// What a call left: its number and the contents of its arrays; an array that it does not have is empty.
 #[derive(Clone, PartialEq, Eq, Debug, Default)]

@@ -33,7 +33,7 @@ fn answer(line: &str, graph: &mut SignedGraph) -> String {
     let room = |i: usize| usize::from(bytes[i]);
     match (letter, bytes.len()) {
         ('d', _) => decoded(&bytes, graph),
-        ('g', 5) => by_rows(&bytes, graph),
+        ('g', 5..=6) => by_rows(&bytes, graph),
         ('r', 1) => reduced(number(0), graph),
         ('e', 1) => encoded(graph, room(0)),
         ('l', 1) => found(graph, number(0)),
@@ -96,7 +96,7 @@ fn decoded(list: &[u8], graph: &mut SignedGraph) -> String {
     }
 }
 
-/// Gives the graph of n vertices with these rows for the vertices 0 and 1, sound or not.
+/// Gives the graph of n vertices with these rows for the vertices 0 and 1 and, where a byte says so, these masked, sound or not.
 fn by_rows(bytes: &[u8], graph: &mut SignedGraph) -> String {
     *graph = SignedGraph::new(0);
     graph.n = bytes[0].into();
@@ -104,6 +104,7 @@ fn by_rows(bytes: &[u8], graph: &mut SignedGraph) -> String {
         graph.positive[vertex] = bytes[1 + vertex].into();
         graph.negative[vertex] = bytes[3 + vertex].into();
     }
+    graph.masked = bytes.get(5).copied().unwrap_or(0).into();
     String::new()
 }
 
@@ -146,6 +147,7 @@ fn classified(graph: &SignedGraph, k: u64, set: u64) -> String {
         Ok(Verdict::Extensible(v)) => said(0, &[6, v, 0, 0]),
         Ok(Verdict::Group(left, right)) => said(0, &[7, left, right, 0]),
         Ok(Verdict::Alone) => said(0, &[8, 0, 0, 0]),
+        Ok(Verdict::Masked(v)) => said(0, &[9, v, 0, 0]),
     }
 }
 

@@ -1,4 +1,5 @@
-//! Reduction by a plain fixpoint: every round looks at all vertices and at all kept edges.
+//! Reduction by a plain fixpoint: the edges of masked vertices are taken out, and then every round looks at all vertices and
+//! at all kept edges.
 
 use super::sets::{above, below, members, size};
 use crate::library::Words;
@@ -25,24 +26,35 @@ pub fn reduce(graph: &Words, k: u64, reduced: &mut Words) -> Result<(), u64> {
 #[inline(never)]
 pub fn reduce_sound(graph: &Words, k: u64, reduced: &mut Words) {
     *reduced = *graph;
+    take_out_masked(reduced);
     while round(reduced, k) {}
+}
+
+/// Drops the edges of masked vertices.
+pub fn take_out_masked(kept: &mut Words) {
+    let (positive, negative, masked) = parts_mut(kept);
+    if masked != 0 {
+        let failing = Failing {
+            vertices: masked,
+            edges: [0; 64],
+        };
+        failing.drop_from(64, positive, negative);
+    }
 }
 
 /// Drops what fails by the edges kept at the start, and says whether that was anything.
 pub fn round(kept: &mut Words, k: u64) -> bool {
     let n = kept[0] as usize;
-    let ([positive, negative], _) = kept[1..].as_chunks_mut::<64>() else {
-        unreachable!("a graph has rows of two signs");
+    let (positive, negative, _) = parts_mut(kept);
+    failing(n, positive, negative, k as u32).drop_from(n, positive, negative)
+}
+
+/// The rows of positive and of negative partners, and the masked vertices.
+fn parts_mut(graph: &mut Words) -> (&mut Rows, &mut Rows, u64) {
+    let ([positive, negative], [masked]) = graph[1..].as_chunks_mut::<64>() else {
+        unreachable!("a graph has rows of two signs, and a word behind them");
     };
-    let failing = failing(n, positive, negative, k as u32);
-    let mut dropped = 0;
-    for u in 0..n.min(64) {
-        let gone = failing.at(u);
-        dropped |= (positive[u] | negative[u]) & gone;
-        positive[u] &= !gone;
-        negative[u] &= !gone;
-    }
-    dropped != 0
+    (positive, negative, *masked)
 }
 
 /// What fails: vertices, and edges, each in the rows of both its ends.
@@ -58,6 +70,18 @@ impl Failing {
             1 => u64::MAX,
             _ => self.edges[u] | self.vertices,
         }
+    }
+
+    /// Drops what fails from the rows of the first n vertices, and says whether that was anything.
+    fn drop_from(&self, n: usize, positive: &mut Rows, negative: &mut Rows) -> bool {
+        let mut dropped = 0;
+        for u in 0..n.min(64) {
+            let gone = self.at(u);
+            dropped |= (positive[u] | negative[u]) & gone;
+            positive[u] &= !gone;
+            negative[u] &= !gone;
+        }
+        dropped != 0
     }
 }
 
@@ -90,18 +114,20 @@ fn failing(n: usize, positive: &Rows, negative: &Rows, k: u32) -> Failing {
     Failing { vertices, edges }
 }
 
-/// Whether partners are mutual and below n, none of both signs and no vertex its own.
+/// Whether partners are mutual and below n, none of both signs and no vertex its own, and masked vertices below n.
 fn is_sound(graph: &Words) -> bool {
     let n = graph[0];
-    let ([positive, negative], _) = graph[1..].as_chunks::<64>() else {
-        unreachable!("a graph has rows of two signs");
+    let ([positive, negative], [masked]) = graph[1..].as_chunks::<64>() else {
+        unreachable!("a graph has rows of two signs, and a word behind them");
     };
     if n > 64 {
         return false;
     }
     let outside = !below(n);
     let rows = positive.iter().zip(negative);
-    let wrong = rows.fold(0, |wrong, (p, q)| wrong | p & q | (p | q) & outside);
+    let wrong = rows.fold(masked & outside, |wrong, (p, q)| {
+        wrong | p & q | (p | q) & outside
+    });
     wrong == 0 && is_mutual(positive) && is_mutual(negative)
 }
 

@@ -11,10 +11,11 @@ pub struct Looks {
     pub looks: u64,
 }
 
-/// Goes through the rounds of a sound graph for k. The first looks at all vertices and edges, a later one at the
-/// vertices that lost an edge in the round before, and at their edges.
+/// Goes through the rounds of a sound graph for k, once the edges of masked vertices are taken out. The first looks at all
+/// vertices and edges, a later one at the vertices that lost an edge in the round before, and at their edges.
 pub fn count(graph: &Words, k: u64) -> Looks {
     let mut kept = *graph;
+    fixpoint::take_out_masked(&mut kept);
     let mut vertices = below(graph[0]);
     let mut counted = Looks::default();
     loop {

@@ -54,15 +54,17 @@ abbrev pub AtMostBy : List ℕ → List ℕ → List ℕ → ℕ → ℕ → ℕ
 AtMostBy table positive negative left right m =
     ForSound positive negative (λ g. Tabled g table (bitOr left right) → AtMost g left right m)
 
--- `above` has the vertices from v up, the table has bounds for them, and every balanced set among them has at most m vertices
+-- `above` has the vertices from v up that a balanced set may hold, the table has bounds for those in it, and every balanced set
+-- among them has at most m vertices
 pub record TabledFrom (g : SignedGraph) (table : List ℕ) (v above m : ℕ) : Type 0 where
-  pub has : (p : ℕ) → v ≤ p → p < g .n → mem p above ≡ true
+  pub has : (p : ℕ) → v ≤ p → mem p (vertices g) ≡ true → mem p above ≡ true
   pub tabled : Tabled g table above
   pub most : AtMostFrom g v m
 
--- bounds for all vertices of every sound graph of n vertices with these tables
-abbrev pub SizeTable : ℕ → List ℕ → List ℕ → List ℕ → Type 0
-SizeTable n positive negative table = ForSound positive negative (λ g. g .n ≡ n → Tabled g table (vertices g))
+-- bounds for all vertices that a balanced set may hold in a sound graph with these tables, n being its n and `all` those vertices
+abbrev pub SizeTable : ℕ → ℕ → List ℕ → List ℕ → List ℕ → Type 0
+SizeTable n all positive negative table =
+    ForSound positive negative (λ g. g .n ≡ n → vertices g ≡ all → Tabled g table (vertices g))
 
 -- all vertices where a test passes, else none
 abbrev pub allIf : Bool → ℕ

@@ -6,6 +6,7 @@ ghost use lib.Bits.{bitOr};
 ghost use Rattle.signed_graph.specs.Tables.{ForSound};
 ghost use mathlib.Core.Logic.{_≢_};
 ghost use Rattle.vertex_set.specs.Sets.{mem};
+ghost use Rattle.signed_graph.specs.Graphs.{vertices};
 ghost use Rattle.bounds.specs.Bounds.{AtMost, Picked, ColourClass, AtMostBy, allIf, AtMostFrom, TabledFrom, SizeTable};
 
 // How many times the search for a bound may branch, for an entry of the table.
@@ -267,9 +268,11 @@ pub fn at_most_alone_first<'a>(
     at_most_by(left, right, room, table, positive, negative, true, fuel)
 }
 
-// A bound on the size of the balanced sets among v and the vertices above it, `most` being one for those above.
+// A bound on the size of the balanced sets among the vertices from v up, `most` being one for those above; `all` are the vertices
+// that a balanced set may hold.
 fn bound_from<'a>(
     v: usize,
+    all: u64,
     above: u64,
     most: u64,
     table: &'a [u64; 64],
@@ -279,8 +282,11 @@ fn bound_from<'a>(
     requires { ⌜ (v < 64) × (most < 64) ⌝ }
     ensures { λ r. ⌜ r ≤ most + 1 ⌝ }
     ensures { λ r. ⌜ ForSound (now (positive .entry)) (now (negative .entry)) (λ g.
-        TabledFrom g (now (table .entry)) (v + 1) above most → AtMostFrom g v r) ⌝ }
+        vertices g ≡ all → TabledFrom g (now (table .entry)) (v + 1) above most → AtMostFrom g v r) ⌝ }
 {
+    if !vertex_set::contains(all, v) {
+        return most;
+    }
     if most == 0 {
         return 1;
     }
@@ -293,9 +299,15 @@ fn bound_from<'a>(
     most + 1
 }
 
-// For each of n vertices, a bound on the size of the balanced sets among the vertices from it up.
-pub fn size_table<'a>(n: u64, positive: &'a [u64; 64], negative: &'a [u64; 64]) -> [u64; 64]
-    ensures { λ r. ⌜ SizeTable n (now (positive .entry)) (now (negative .entry)) r ⌝ }
+// For each of n vertices, a bound on the size of the balanced sets among the vertices from it up; `all` are those that a balanced
+// set may hold.
+pub fn size_table<'a>(
+    n: u64,
+    all: u64,
+    positive: &'a [u64; 64],
+    negative: &'a [u64; 64],
+) -> [u64; 64]
+    ensures { λ r. ⌜ SizeTable n all (now (positive .entry)) (now (negative .entry)) r ⌝ }
 {
     let mut table = [0u64; 64];
     if 64 < n {
@@ -306,9 +318,9 @@ pub fn size_table<'a>(n: u64, positive: &'a [u64; 64], negative: &'a [u64; 64]) 
     let mut v = n as usize;
     while 0 < v {
         v -= 1;
-        most = bound_from(v, above, most, &table, positive, negative);
+        most = bound_from(v, all, above, most, &table, positive, negative);
         table[v] = most;
-        above = above | vertex_set::single(v);
+        above = above | (vertex_set::single(v) & all);
     }
     table
 }

@@ -11,6 +11,7 @@ verdict-length : (v : Verdict) → length (verdictWords v) ≡ 4
 verdict-length verdict.Empty = refl
 verdict-length (verdict.OutOfRange p) = refl
 verdict-length verdict.Alone = refl
+verdict-length (verdict.Masked p) = refl
 verdict-length (verdict.MissingEdge p q) = refl
 verdict-length (verdict.Unbalanced p q r) = refl
 verdict-length (verdict.TooSmall l r) = refl

@@ -23,6 +23,7 @@ fn verdict_words(verdict: Verdict) -> [u64; 4]
         Verdict::Empty => [1, 0, 0, 0],
         Verdict::OutOfRange(p) => [2, p as u64, 0, 0],
         Verdict::Alone => [8, 0, 0, 0],
+        Verdict::Masked(p) => [9, p as u64, 0, 0],
         Verdict::MissingEdge(p, q) => [3, p as u64, q as u64, 0],
         Verdict::Unbalanced(p, q, r) => [4, p as u64, q as u64, r as u64],
         Verdict::TooSmall(left, right) => [5, left, right, 0],

@@ -1,11 +1,11 @@
 -- Graphs written as words: what is read at the front of an array is the graph that was written there. Assumes nothing.
 use Prim.Native.Nat.{ℕ, _≤_}
 use native.Mathlib.Omega.{arith}
-use mathlib.Core.Path.{_≡_, ap, ap₂, _∙_}
+use mathlib.Core.Path.{_≡_, ap, _∙_}
 use mathlib.Core.Bool.{true}
-use mathlib.Core.List.{List, _++_, append-assoc}
-use lib.ListN.{length, take, drop, length-append, length-drop}
-use lib.Seq.{take-at, drop-at}
+use mathlib.Core.List.{List, [], _∷_, _++_, append-assoc}
+use lib.ListN.{length, getD, take, drop, length-append, length-drop}
+use lib.Seq.{take-at, drop-at, getD-at}
 use Rattle.vertex_set.specs.Buffers.{overwritten}
 use Rattle.signed_graph.specs.declared.SignedGraph.{SignedGraph}
 use Rattle.signed_graph.specs.Soundness.{sound}
@@ -25,17 +25,23 @@ overwritten-long words before h =
 -- a graph whose tables have 64 rows each
 module _ (g : SignedGraph) (positives : length (g .positive) ≡ 64) (negatives : length (g .negative) ≡ 64) where
   words-long : length (wordsOf g) ≡ graphWords
-  words-long = omega (arith, length-append (g .positive) (g .negative))
+  words-long =
+      omega (arith, length-append (g .positive) (g .negative ++ g .masked ∷ []), length-append (g .negative) (g .masked ∷ []))
 
   -- at the front of whatever array
   read-front : (rest : List ℕ) → graphAt (wordsOf g ++ rest) ≡ g
   unfolding graphAt
   read-front rest =
-      let rows = append-assoc (g .positive) (g .negative) rest in
-      ap₂ (λ (p q : List ℕ). record { n = g .n; positive = p; negative = q })
-      (ap (take 64) rows ∙ take-at (g .positive) (g .negative ++ rest) 64 positives)
-      (ap (λ (l : List ℕ). take 64 (drop 64 l)) rows ∙ ap (take 64) (drop-at (g .positive) (g .negative ++ rest) 64 positives)
-      ∙ take-at (g .negative) rest 64 negatives)
+      let behind : List ℕ = g .masked ∷ rest in
+      let rows : (g .positive ++ (g .negative ++ g .masked ∷ [])) ++ rest ≡ g .positive ++ (g .negative ++ behind) = simp append-assoc in
+      let p : take 64 ((g .positive ++ (g .negative ++ g .masked ∷ [])) ++ rest) ≡ g .positive =
+      rw rows (take-at (g .positive) (g .negative ++ behind) 64 positives) in
+      let q : take 64 (drop 64 ((g .positive ++ (g .negative ++ g .masked ∷ [])) ++ rest)) ≡ g .negative =
+      rw (rows, drop-at (g .positive) (g .negative ++ behind) 64 positives) (take-at (g .negative) behind 64 negatives) in
+      let m : getD ((g .positive ++ (g .negative ++ g .masked ∷ [])) ++ rest) 128 0 ≡ g .masked =
+      rw (rows, ← append-assoc) (getD-at (g .positive ++ g .negative) (g .masked) rest 0 128
+      (omega (arith, length-append (g .positive) (g .negative)))) in
+      λ i. record { n = g .n; positive = p i; negative = q i; masked = m i }
 
   -- the graph that is read is the one that was written
   pub written-read : (before : List ℕ) → graphAt (overwritten (wordsOf g) before) ≡ g

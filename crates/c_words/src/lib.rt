@@ -7,13 +7,15 @@ ghost use Rattle.vertex_set.specs.Buffers.{overwritten};
 ghost use Rattle.c_words.specs.Graphs.{graphWords, wordsOf, graphAt};
 ghost use Rattle.c_words.specs.Refusals.{graphRefusal, answerRefusal, ownRefusal};
 
-// A graph is so many words: n, then the positive rows, then the negative ones.
-pub const GRAPH_WORDS: usize = 129;
+// A graph is so many words: n, then the positive rows, then the negative ones, then the set of masked vertices.
+pub const GRAPH_WORDS: usize = 130;
 
-// Where the rows of either sign begin.
+// Where the rows of either sign begin, and where the masked set is.
 const FIRST_POSITIVE: usize = 1;
 
 const FIRST_NEGATIVE: usize = 65;
+
+const MASKED: usize = 129;
 
 // Refusals of the interface itself, apart from those of the calls.
 pub const SHORT_GRAPH: u64 = 101;
@@ -70,11 +72,12 @@ pub fn graph_at(words: &[u64]) -> SignedGraph
     let mut positive = [0; 64];
     put_words(&words[FIRST_POSITIVE..FIRST_NEGATIVE], &mut positive);
     let mut negative = [0; 64];
-    put_words(&words[FIRST_NEGATIVE..GRAPH_WORDS], &mut negative);
+    put_words(&words[FIRST_NEGATIVE..MASKED], &mut negative);
     SignedGraph {
         n: words[0],
         positive,
         negative,
+        masked: words[MASKED],
     }
 }
 
@@ -87,4 +90,5 @@ pub fn put_graph(g: SignedGraph, out: &mut [u64])
     put_words(&first, out);
     put_words(&g.positive, &mut out[FIRST_POSITIVE..]);
     put_words(&g.negative, &mut out[FIRST_NEGATIVE..]);
+    out[MASKED] = g.masked;
 }

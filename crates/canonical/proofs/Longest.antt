@@ -1,4 +1,4 @@
--- The longest canonical form has 6,051 bytes. Assumes nothing.
+-- The longest canonical form has 6,179 bytes. Assumes nothing.
 use Prim.Native.Nat.{ℕ, zero, suc, _+_, _-_, _^_, _≤_}
 use native.Mathlib.Omega.{arith}
 use mathlib.Core.Path.{_≡_, refl, ap}
@@ -7,13 +7,14 @@ use mathlib.Core.List.{[], _∷_}
 use lib.ListN.{length, length-append, replicate}
 use Rattle.vertex_set.specs.Ranges as R
 use Rattle.vertex_set.specs.Sets as S
+use Rattle.vertex_set.proofs.SizeBounds.{size-64}
 use Rattle.signed_graph.specs.declared.SignedGraph.{SignedGraph}
 use Rattle.signed_graph.specs.Graphs.{positiveEdge, negativeEdge}
-use Rattle.signed_graph.specs.Soundness.{sound, hasAllRows, loopless, symmetric, confined, unambiguous}
+use Rattle.signed_graph.specs.Soundness.{sound, hasAllRows, loopless, symmetric, confined, unambiguous, masksBelow}
 use Rattle.signed_graph.proofs.EdgeCounts.{pairs-64}
-use Rattle.edge_list.specs.Edges.{edgeBytes}
-use Rattle.canonical.specs.Canonical.{edgeBy, edgeBetween, edgesAbove, orderedEdges, canonical}
-use Rattle.canonical.proofs.Rows.{length-list}
+use Rattle.edge_list.specs.Entries.{entryBytes}
+use Rattle.canonical.specs.Canonical.{edgeBy, edgeBetween, edgesAbove, orderedEdges, masksOf, canonical}
+use Rattle.canonical.proofs.Rows.{length-form}
 
 -- how many pairs d vertices have
 abbrev pairs : ℕ → ℕ
@@ -60,13 +61,14 @@ module _ (g : SignedGraph) where
       let e : (64 - g .n) + g .n ≡ 64 = omega arith in
       omega (arith, rows-few (g .n) 0 (omega arith), pairs-more (64 - g .n) (g .n), ap pairs e, pairs-64)
 
-  pub longest : g .n ≤ 64 → length (canonical g) ≤ 6051
-  longest h = omega (arith, length-list (g .n) (orderedEdges g), most-edges h)
+  pub longest : g .n ≤ 64 → length (canonical g) ≤ 6179
+  longest h = omega (arith, length-form g, most-edges h, size-64 (g .masked))
 
--- all edges between 64 vertices
+-- all edges between 64 vertices, and all vertices masked
 complete : SignedGraph
-complete = record { n = 64; positive = R.gather 64 0 (λ p. (2 ^ 64 - 1 - 2 ^ p) ∷ []); negative = replicate 64 0 }
+complete =
+    record { n = 64; positive = R.gather 64 0 (λ p. (2 ^ 64 - 1 - 2 ^ p) ∷ []); negative = replicate 64 0; masked = 2 ^ 64 - 1 }
 
-pub longest-reached : (g : SignedGraph) × (sound g ≡ true) × (length (canonical g) ≡ 6051)
-unfolding complete sound hasAllRows loopless symmetric confined unambiguous orderedEdges edgeBytes R.gather R.all S.mem
+pub longest-reached : (g : SignedGraph) × (sound g ≡ true) × (length (canonical g) ≡ 6179)
+unfolding complete sound hasAllRows loopless symmetric confined unambiguous masksBelow orderedEdges masksOf entryBytes R.gather R.all S.mem S.overMembers
 longest-reached = (complete, refl, refl)

@@ -13,40 +13,47 @@ use Rattle.signed_graph.specs.Soundness.{sound}
 use Rattle.signed_graph.proofs.Soundness.{Sound, to-sound}
 use Rattle.edge_list.specs.declared.Sign.{Sign}
 use Rattle.edge_list.specs.declared.Sign.the-variants.{Positive, Negative}
-use Rattle.edge_list.specs.Edges.{givenAs}
+use Rattle.edge_list.specs.Entries.{givenAs, masked}
 use Rattle.edge_list.specs.Acceptance.{EdgeListOf}
 use Rattle.edge_list.specs.Decoding.{accepted, decoded}
-use Rattle.canonical.specs.Canonical.{CanonicalForm, orderedEdges, canonical}
+use Rattle.canonical.specs.Canonical.{CanonicalForm, orderedEntries, canonical}
 use Rattle.canonical.specs.Encoding.{encoded, buffered, encodedLength}
-use Rattle.edge_list.proofs.Answers.{accepted-words, list-accepted, accepted-sound, accepted-positive, accepted-negative}
-use Rattle.canonical.proofs.Canonical.{edges-ordered, edges-given, edges-graph, edges-proper, one-form}
+use Rattle.edge_list.proofs.Answers.{accepted-words, list-accepted, accepted-sound, accepted-positive, accepted-negative, accepted-masked}
+use Rattle.canonical.proofs.Canonical.{entries-ordered, entries-given, entries-masked, entries-graph, entries-proper, one-form}
 
 -- ---- the canonical form is an edge list of its graph
 
 canonical-accepted : (g : SignedGraph) → sound g ≡ true → decoded (canonical g) ≡ accepted g
 canonical-accepted g e =
     let h : Sound g = to-sound g e in
-    list-accepted (g .n) (orderedEdges g) (h .small) (edges-proper g) ∙ ap accepted (edges-graph g h)
+    list-accepted (g .n) (orderedEntries g) (h .small) (entries-proper g h) ∙ ap accepted (entries-graph g h)
 
 -- ---- and the canonical form of every list that gives this graph
 
-canonical-form : {bytes : List ℕ} {g : SignedGraph} (w : EdgeListOf bytes g) → CanonicalForm (g .n) (w .edges) (canonical g)
+canonical-form : {bytes : List ℕ} {g : SignedGraph} (w : EdgeListOf bytes g) → CanonicalForm (g .n) (w .entries) (canonical g)
 canonical-form {bytes} {g} w =
-    record { edges = orderedEdges g; ordered = edges-ordered g; spelled = refl; same = same }
+    record {
+      entries = orderedEntries g;
+      ordered = entries-ordered g;
+      spelled = refl;
+      same = same;
+      same-masks = λ p. entries-masked g h p ∙ accepted-masked w p;
+    }
   where
     h : Sound g
     h = to-sound g (accepted-sound w)
 
-    same : (s : Sign) (p q : ℕ) → givenAs s (orderedEdges g) p q ≡ givenAs s (w .edges) p q
-    same Positive p q = edges-given g h Positive p q ∙ accepted-positive w p q
-    same Negative p q = edges-given g h Negative p q ∙ accepted-negative w p q
+    same : (s : Sign) (p q : ℕ) → givenAs s (orderedEntries g) p q ≡ givenAs s (w .entries) p q
+    same Positive p q = entries-given g h Positive p q ∙ accepted-positive w p q
+    same Negative p q = entries-given g h Negative p q ∙ accepted-negative w p q
 
--- lists of the same edges, in any order and either way round, have one canonical form
+-- lists of the same edges and masks, in any order and either way round, have one canonical form
 pub same-form : {a b : List ℕ} {g h : SignedGraph} (v : EdgeListOf a g) (w : EdgeListOf b h) → g .n ≡ h .n
-    → ((s : Sign) (p q : ℕ) → givenAs s (v .edges) p q ≡ givenAs s (w .edges) p q) → canonical g ≡ canonical h
-same-form {a} {b} {g} {h} v w e same =
-    one-form (h .n) (v .edges) (w .edges) (canonical g) (canonical h)
-    (subst (λ (m : ℕ). CanonicalForm m (v .edges) (canonical g)) e (canonical-form v)) (canonical-form w) same
+    → ((s : Sign) (p q : ℕ) → givenAs s (v .entries) p q ≡ givenAs s (w .entries) p q)
+    → ((p : ℕ) → masked (v .entries) p ≡ masked (w .entries) p) → canonical g ≡ canonical h
+same-form {a} {b} {g} {h} v w e same also =
+    one-form (h .n) (v .entries) (w .entries) (canonical g) (canonical h)
+    (subst (λ (m : ℕ). CanonicalForm m (v .entries) (canonical g)) e (canonical-form v)) (canonical-form w) same also
 
 -- ---- what `encode` wrote
 
@@ -72,7 +79,7 @@ module _ (g : SignedGraph) (out : List ℕ) (e : sound g ≡ true) (room : lengt
 
 -- what is decoded encodes to the canonical form of the list
 pub decode-encode : (bytes : List ℕ) (g : SignedGraph) (out : List ℕ) (e : decoded bytes ≡ accepted g) → length (canonical g) ≤ length out
-    → CanonicalForm (g .n) (accepted-words bytes g e .edges) (writtenBy g out)
+    → CanonicalForm (g .n) (accepted-words bytes g e .entries) (writtenBy g out)
 decode-encode bytes g out e room =
     let w : EdgeListOf bytes g = accepted-words bytes g e in
-    subst (CanonicalForm (g .n) (w .edges)) (sym (writes-canonical g out (accepted-sound w) room)) (canonical-form w)
+    subst (CanonicalForm (g .n) (w .entries)) (sym (writes-canonical g out (accepted-sound w) room)) (canonical-form w)

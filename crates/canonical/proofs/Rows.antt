@@ -1,12 +1,13 @@
--- The edges of a graph row by row, how many they are, and the bytes that they take. Assumes nothing.
+-- The edges of a graph row by row and its masks, how many they are, and the bytes that they take. Assumes nothing.
 use Prim.Native.Nat.{ℕ, suc, _+_, _-_, _*_, _^_, _≤_, _<_}
 use native.Mathlib.Omega.{arith}
 use mathlib.Core.Path.{_≡_, refl, sym, ap, ap₂, _∙_}
 use mathlib.Core.Bool.{Bool, true, false, _&&_, _||_}
-use mathlib.Core.List.{List, [], _∷_, _++_}
+use mathlib.Core.List.{List, [], _∷_, _++_, append-assoc}
 use lib.Dec.{ltb}
 use lib.ListN.{length, getD, length-append}
 use borrow.Author.Tests.{lt-ltb, le-ltb}
+use Rattle.vertex_set.specs.Lists.{All}
 use Rattle.vertex_set.specs.Ranges.{gather}
 use Rattle.vertex_set.specs.Sets.{mem, size, lowest, overMembers}
 use Rattle.vertex_set.proofs.Booleans.{clash, fails-left, fails-right}
@@ -20,46 +21,77 @@ use Rattle.signed_graph.specs.declared.SignedGraph.{SignedGraph}
 use Rattle.signed_graph.specs.Graphs.{positiveEdge, negativeEdge, edge, edgeCount}
 use Rattle.signed_graph.proofs.Soundness.{Sound, high-row}
 use Rattle.signed_graph.proofs.EdgeCounts.{mem-above, above, lower-all}
-use Rattle.edge_list.specs.Edges.{Edge, link, commandByte, edgeBytes, listOf}
-use Rattle.canonical.specs.Canonical.{edgeBy, edgeBetween, edgesAbove, orderedEdges, canonical}
+use Rattle.edge_list.specs.Entries.{Entry, link, mask, commandByte, bytesOf, entryBytes}
+use Rattle.canonical.specs.Canonical.{edgeBy, edgeBetween, edgesAbove, orderedEdges, masksOf, orderedMasks, orderedEntries, canonical}
 use Rattle.canonical.specs.EdgeRows.{signBy, edgesTo}
+use Rattle.canonical.proofs.Canonical.{edges-three, masks-two}
 
 -- ---- bytes
 
-bytes-append : (es fs : List Edge) → edgeBytes (es ++ fs) ≡ edgeBytes es ++ edgeBytes fs
-unfolding edgeBytes
+bytes-append : (es fs : List Entry) → entryBytes (es ++ fs) ≡ entryBytes es ++ entryBytes fs
+unfolding entryBytes
 bytes-append [] fs = refl
-bytes-append (link s a b ∷ es) fs = ap (λ (x : List ℕ). commandByte s ∷ a ∷ b ∷ x) (bytes-append es fs)
+bytes-append (e ∷ es) fs =
+    ap (λ (x : List ℕ). bytesOf e ++ x) (bytes-append es fs) ∙ sym (append-assoc (bytesOf e) (entryBytes es) (entryBytes fs))
 
-length-bytes : (es : List Edge) → length (edgeBytes es) ≡ 3 * length es
-unfolding edgeBytes
-length-bytes [] = refl
-length-bytes (link s a b ∷ es) = omega (arith, length-bytes es)
+-- entries of k bytes each
+length-bytes : (k : ℕ) (es : List Entry) → All (λ e. length (bytesOf e) ≡ k) es → length (entryBytes es) ≡ k * length es
+unfolding entryBytes
+length-bytes k [] h = omega arith
+length-bytes k (e ∷ es) h = omega (arith, length-append (bytesOf e) (entryBytes es), h .0, length-bytes k es (h .1))
 
-pub length-list : (n : ℕ) (es : List Edge) → length (listOf n es) ≡ 3 + 3 * length es
-length-list n es = omega (arith, length-append (edgeBytes es) (0xff ∷ []), length-bytes es)
+module _ (g : SignedGraph) where
+  -- behind the opening come the edges, then the masks, then the close
+  pub bytes-parts : entryBytes (orderedEntries g) ++ 0xff ∷ [] ≡ entryBytes (orderedEdges g) ++ (entryBytes (orderedMasks g) ++ 0xff ∷ [])
+  bytes-parts =
+      ap (λ (x : List ℕ). x ++ 0xff ∷ []) (bytes-append (orderedEdges g) (orderedMasks g))
+      ∙ append-assoc (entryBytes (orderedEdges g)) (entryBytes (orderedMasks g)) (0xff ∷ [])
+
+  pub length-form : length (canonical g) ≡ 3 + 3 * length (orderedEdges g) + 2 * size (g .masked)
+  unfolding masksOf
+  length-form =
+      omega (
+        arith,
+        ap length bytes-parts,
+        length-append (entryBytes (orderedEdges g)) (entryBytes (orderedMasks g) ++ 0xff ∷ []),
+        length-append (entryBytes (orderedMasks g)) (0xff ∷ []),
+        length-bytes 3 (orderedEdges g) (edges-three g),
+        length-bytes 2 (orderedMasks g) (masks-two (g .masked)),
+        length-over mask (g .masked),
+      )
 
 -- ---- the edges from p to the members of a set, from its lowest member up
 
 module _ (positive p : ℕ) where
-  abbrev to : ℕ → List Edge
+  abbrev to : ℕ → List Entry
   to q = link (signBy (mem q positive)) p q ∷ []
 
-  pub bytes-none : (s : ℕ) → s ≡ 0 → edgeBytes (edgesTo positive s p) ≡ []
-  unfolding edgeBytes edgesTo
-  bytes-none s e = ap (λ (x : ℕ). edgeBytes (edgesTo positive x p)) e ∙ ap edgeBytes (over-none to)
+  pub bytes-none : (s : ℕ) → s ≡ 0 → entryBytes (edgesTo positive s p) ≡ []
+  unfolding entryBytes edgesTo
+  bytes-none s e = ap (λ (x : ℕ). entryBytes (edgesTo positive x p)) e ∙ ap entryBytes (over-none to)
 
   pub bytes-lowest : (s q command : ℕ) → 0 < s → s < 2 ^ 64 → q ≡ lowest s → command ≡ commandByte (signBy (mem q positive))
-      → edgeBytes (edgesTo positive s p) ≡ (command ∷ p ∷ q ∷ []) ++ edgeBytes (edgesTo positive (rest s) p)
-  unfolding edgeBytes edgesTo
+      → entryBytes (edgesTo positive s p) ≡ (command ∷ p ∷ q ∷ []) ++ entryBytes (edgesTo positive (rest s) p)
+  unfolding entryBytes edgesTo
   bytes-lowest s q command pos h e is =
-      ap edgeBytes (over-lowest to s pos h ∙ ap (λ (x : ℕ). to x ++ edgesTo positive (rest s) p) (sym e))
-      ∙ ap (λ (x : ℕ). x ∷ p ∷ q ∷ edgeBytes (edgesTo positive (rest s) p)) (sym is)
+      ap entryBytes (over-lowest to s pos h ∙ ap (λ (x : ℕ). to x ++ edgesTo positive (rest s) p) (sym e))
+      ∙ ap (λ (x : ℕ). x ∷ p ∷ q ∷ entryBytes (edgesTo positive (rest s) p)) (sym is)
+
+-- ---- the masks of a set, from its lowest member up
+
+pub masks-none : (s : ℕ) → s ≡ 0 → entryBytes (masksOf s) ≡ []
+unfolding entryBytes masksOf
+masks-none s e = ap (λ (x : ℕ). entryBytes (masksOf x)) e ∙ ap entryBytes (over-none (λ p. mask p ∷ []))
+
+pub masks-lowest : (s p : ℕ) → 0 < s → s < 2 ^ 64 → p ≡ lowest s → entryBytes (masksOf s) ≡ 0x23 ∷ p ∷ entryBytes (masksOf (rest s))
+unfolding entryBytes masksOf
+masks-lowest s p pos h e =
+    ap entryBytes (over-lowest (λ p. mask p ∷ []) s pos h ∙ ap (λ (x : ℕ). mask x ∷ masksOf (rest s)) (sym e))
 
 -- ---- a row of a sound graph
 
 -- the edge from p to q, by whether q is one of them
-abbrev entry : SignedGraph → ℕ → ℕ → Bool → List Edge
+abbrev entry : SignedGraph → ℕ → ℕ → Bool → List Entry
 entry g p q b = elim b [ true ↦ link (signBy (positiveEdge g p q)) p q ∷ [] | false ↦ [] ]
 
 module _ (g : SignedGraph) (s : Sound g) (p : ℕ) (h : p < g .n) where
@@ -70,7 +102,7 @@ module _ (g : SignedGraph) (s : Sound g) (p : ℕ) (h : p < g .n) where
       ∙ gather-cong row (edgeBetween g p) (g .n - suc p) (suc p)
       (λ q a b. ap (entry g p q) (between q a (omega (arith, s .small))) ∙ same q (positiveEdge g p q) (negativeEdge g p q))
     where
-      row : ℕ → List Edge
+      row : ℕ → List Entry
       row q = entry g p q (mem q (above g p))
 
       member : (q : ℕ) → q < 64 → mem q (above g p) ≡ (ltb p q && edge g p q)
@@ -101,7 +133,7 @@ module _ (g : SignedGraph) (s : Sound g) (p : ℕ) (h : p < g .n) where
 -- ---- the rows from p on
 
 -- the edges whose lower vertex is p or higher
-abbrev pub edgesFrom : SignedGraph → ℕ → List Edge
+abbrev pub edgesFrom : SignedGraph → ℕ → List Entry
 edgesFrom g p = gather (g .n - p) p (edgesAbove g)
 
 pub from-start : (g : SignedGraph) → orderedEdges g ≡ edgesFrom g 0
@@ -112,15 +144,15 @@ from-start g =
 
 -- x is the set that the code computes
 module _ (g : SignedGraph) (s : Sound g) (p : ℕ) (h : p < g .n) (x : ℕ) (is : x ≡ above g p) where
-  pub bytes-row : edgeBytes (edgesFrom g p) ≡ edgeBytes (edgesTo (getD (g .positive) p 0) x p) ++ edgeBytes (edgesFrom g (p + 1))
+  pub bytes-row : entryBytes (edgesFrom g p) ≡ entryBytes (edgesTo (getD (g .positive) p 0) x p) ++ entryBytes (edgesFrom g (p + 1))
   bytes-row =
-      ap edgeBytes (gather-more (edgesAbove g) (g .n) p h) ∙ bytes-append (edgesAbove g p) (edgesFrom g (p + 1))
-      ∙ ap (λ (es : List Edge). edgeBytes es ++ edgeBytes (edgesFrom g (p + 1)))
+      ap entryBytes (gather-more (edgesAbove g) (g .n) p h) ∙ bytes-append (edgesAbove g p) (edgesFrom g (p + 1))
+      ∙ ap (λ (es : List Entry). entryBytes es ++ entryBytes (edgesFrom g (p + 1)))
       (sym (edges-above g s p h) ∙ ap (λ (y : ℕ). edgesTo (getD (g .positive) p 0) y p) (sym is))
 
-pub bytes-end : (g : SignedGraph) (p : ℕ) → g .n ≤ p → edgeBytes (edgesFrom g p) ≡ []
-unfolding edgeBytes
-bytes-end g p h = ap edgeBytes (gather-end (edgesAbove g) (g .n) p h)
+pub bytes-end : (g : SignedGraph) (p : ℕ) → g .n ≤ p → entryBytes (edgesFrom g p) ≡ []
+unfolding entryBytes
+bytes-end g p h = ap entryBytes (gather-end (edgesAbove g) (g .n) p h)
 
 -- ---- how many there are
 
@@ -142,5 +174,5 @@ module _ (g : SignedGraph) (s : Sound g) where
       ∙ sum-cong (λ p. length (edgesAbove g p)) (λ p. size (above g p)) (g .n) (length-above g s)
       ∙ sym (sum-past (λ p. size (above g p)) (g .n) none-high 64 (s .small)) ∙ lower-all g
 
-  pub length-canonical : length (canonical g) ≡ 3 + 3 * edgeCount g
-  length-canonical = omega (arith, length-list (g .n) (orderedEdges g), edges-listed)
+  pub length-canonical : length (canonical g) ≡ 3 + 3 * edgeCount g + 2 * size (g .masked)
+  length-canonical = omega (arith, length-form g, edges-listed)

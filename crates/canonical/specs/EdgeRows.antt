@@ -5,7 +5,7 @@ use mathlib.Core.List.{List, [], _∷_}
 use Rattle.vertex_set.specs.Sets.{mem, overMembers}
 use Rattle.edge_list.specs.declared.Sign.{Sign}
 use Rattle.edge_list.specs.declared.Sign.the-variants.{Positive, Negative}
-use Rattle.edge_list.specs.Edges.{Edge, link}
+use Rattle.edge_list.specs.Entries.{Entry, link}
 
 -- the sign of an edge, by whether it is positive
 abbrev pub signBy : Bool → Sign
@@ -13,5 +13,5 @@ signBy true = Positive
 signBy false = Negative
 
 -- the edges from p to the members of s, ascending; those to members of `positive` are positive
-unfoldable pub edgesTo : ℕ → ℕ → ℕ → List Edge
+unfoldable pub edgesTo : ℕ → ℕ → ℕ → List Entry
 edgesTo positive s p = overMembers s (λ q. link (signBy (mem q positive)) p q ∷ [])

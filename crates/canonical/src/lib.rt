@@ -9,8 +9,8 @@ ghost use lib.ListN.{length};
 ghost use Rattle.vertex_set.specs.Buffers.{overwritten};
 ghost use Rattle.vertex_set.specs.Sets.{mem};
 ghost use Rattle.signed_graph.specs.Soundness.{sound};
-ghost use Rattle.edge_list.specs.Edges.{commandByte, edgeBytes};
-ghost use Rattle.canonical.specs.Canonical.{orderedEdges, canonical};
+ghost use Rattle.edge_list.specs.Entries.{commandByte, entryBytes};
+ghost use Rattle.canonical.specs.Canonical.{orderedEdges, masksOf, canonical};
 ghost use Rattle.canonical.specs.Encoding as encoding;
 ghost use Rattle.canonical.specs.Encoding.{encoded, buffered, encodingNumber, encodingLength};
 ghost use Rattle.canonical.specs.EdgeRows.{signBy, edgesTo};
@@ -66,9 +66,9 @@ fn put_command(command: u8, p: usize, q: usize, out: &mut [u8])
 
 // Writes the edges from p to the members of s, and returns how many bytes they take.
 fn put_edges(positive: u64, s: u64, p: usize, out: &mut [u8]) -> usize
-    requires { ⌜ (p < 64) × (length (edgeBytes (edgesTo positive s p)) ≤ length (now out)) ⌝ }
-    ensures length { λ r. ⌜ r ≡ length (edgeBytes (edgesTo positive s p)) ⌝ }
-    ensures bytes { λ r. ⌜ now (out .exit) ≡ overwritten (edgeBytes (edgesTo positive s p)) (now (out .entry)) ⌝ }
+    requires { ⌜ (p < 64) × (length (entryBytes (edgesTo positive s p)) ≤ length (now out)) ⌝ }
+    ensures length { λ r. ⌜ r ≡ length (entryBytes (edgesTo positive s p)) ⌝ }
+    ensures bytes { λ r. ⌜ now (out .exit) ≡ overwritten (entryBytes (edgesTo positive s p)) (now (out .entry)) ⌝ }
 {
     let mut left = s;
     let mut at: usize = 0;
@@ -84,9 +84,9 @@ fn put_edges(positive: u64, s: u64, p: usize, out: &mut [u8]) -> usize
 
 // Writes the edges of a sound graph, and returns how many bytes they take.
 fn put_rows(g: SignedGraph, out: &mut [u8]) -> usize
-    requires { ⌜ (sound g ≡ true) × (length (edgeBytes (orderedEdges g)) ≤ length (now out)) ⌝ }
-    ensures length { λ r. ⌜ r ≡ length (edgeBytes (orderedEdges g)) ⌝ }
-    ensures bytes { λ r. ⌜ now (out .exit) ≡ overwritten (edgeBytes (orderedEdges g)) (now (out .entry)) ⌝ }
+    requires { ⌜ (sound g ≡ true) × (length (entryBytes (orderedEdges g)) ≤ length (now out)) ⌝ }
+    ensures length { λ r. ⌜ r ≡ length (entryBytes (orderedEdges g)) ⌝ }
+    ensures bytes { λ r. ⌜ now (out .exit) ≡ overwritten (entryBytes (orderedEdges g)) (now (out .entry)) ⌝ }
 {
     let n = g.n as usize;
     let mut at: usize = 0;
@@ -101,6 +101,24 @@ fn put_rows(g: SignedGraph, out: &mut [u8]) -> usize
     at
 }
 
+// Writes the masks of the vertices of a set, and returns how many bytes they take.
+fn put_masks(masked: u64, out: &mut [u8]) -> usize
+    requires { ⌜ length (entryBytes (masksOf masked)) ≤ length (now out) ⌝ }
+    ensures length { λ r. ⌜ r ≡ length (entryBytes (masksOf masked)) ⌝ }
+    ensures bytes { λ r. ⌜ now (out .exit) ≡ overwritten (entryBytes (masksOf masked)) (now (out .entry)) ⌝ }
+{
+    let mut left = masked;
+    let mut at: usize = 0;
+    while left != 0 {
+        let p = vertex_set::lowest(left);
+        out[at] = 0x23;
+        out[at + 1] = p as u8;
+        at += 2;
+        left = left & (left - 1);
+    }
+    at
+}
+
 // Writes the canonical form of a sound graph.
 fn put_canonical(g: SignedGraph, out: &mut [u8])
     requires { ⌜ (sound g ≡ true) × (length (canonical g) ≤ length (now out)) ⌝ }
@@ -109,7 +127,9 @@ fn put_canonical(g: SignedGraph, out: &mut [u8])
     out[0] = 0x10;
     out[1] = g.n as u8;
     let edges = put_rows(g, &mut out[2..]);
-    let close = 2 + edges;
+    let behind = 2 + edges;
+    let masks = put_masks(g.masked, &mut out[behind..]);
+    let close = behind + masks;
     out[close] = 0xff;
 }
 
@@ -123,7 +143,8 @@ pub fn encode(g: SignedGraph, out: &mut [u8]) -> Encoded
     if !signed_graph::is_sound(g) {
         return Encoded::Refused(Refusal::Unsound);
     }
-    let need = 3 + 3 * signed_graph::count_edges(g);
+    let masks = vertex_set::size(g.masked) as usize;
+    let need = 3 + 3 * signed_graph::count_edges(g) + 2 * masks;
     if out.len() < need {
         return Encoded::Refused(Refusal::BufferTooShort);
     }

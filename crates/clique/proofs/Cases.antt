@@ -1,5 +1,5 @@
 -- Document 01's cases T1 to T5 and T7 (their groups) and T8 to T11 (the verdicts, with numbers and values), which compute; T2 as
--- document 02 has it. Assumes nothing.
+-- document 02 has it, and A with masked vertices (S-4). Assumes nothing.
 use mathlib.Core.Path.{_≡_, refl, ap}
 use mathlib.Core.Bool.{true}
 use mathlib.Core.List.{List, [], _∷_}
@@ -8,15 +8,15 @@ use Rattle.vertex_set.specs.Lists.{select}
 use Rattle.vertex_set.specs.Ranges as R
 use Rattle.vertex_set.specs.Sets as S
 use Rattle.signed_graph.specs.Graphs.{edgeless, vertices}
-use Rattle.signed_graph.specs.Samples.{triangle, chain, sampleA}
-use Rattle.signed_graph.specs.Soundness.{sound, hasAllRows, loopless, symmetric, confined, unambiguous}
+use Rattle.signed_graph.specs.Samples.{triangle, chain, sampleA, maskedA}
+use Rattle.signed_graph.specs.Soundness.{sound, hasAllRows, loopless, symmetric, confined, unambiguous, masksBelow}
 use Rattle.clique.specs.declared.Verdict.{Verdict}
-use Rattle.clique.specs.declared.Verdict.the-variants.{Empty, OutOfRange, Alone, MissingEdge, Unbalanced, TooSmall, Extensible, Group}
+use Rattle.clique.specs.declared.Verdict.the-variants.{Empty, OutOfRange, Alone, Masked, MissingEdge, Unbalanced, TooSmall, Extensible, Group}
 use Rattle.clique.specs.declared.Classified.the-variants.{As}
 use Rattle.clique.specs.Balance.{balanced, allAgree, left, right}
 use Rattle.clique.specs.Groups.{floor, extension, isGroup, groups}
 use Rattle.vertex_set.specs.Order.{choices, subsets}
-use Rattle.clique.specs.Verdicts.{verdict, firstOutside, missingFirst, missingSecond, oddFirst, oddSecond, oddThird, classifiedValues}
+use Rattle.clique.specs.Verdicts.{verdict, firstOutside, firstMasked, missingFirst, missingSecond, oddFirst, oddSecond, oddThird, classifiedValues}
 
 -- the set of the vertices of a list
 abbrev pub set : List ℕ → ℕ
@@ -30,7 +30,7 @@ pub record Sound : Type 0 where
   pub sound-A : sound sampleA ≡ true
 
 pub samples-sound : Sound
-unfolding sound hasAllRows loopless symmetric confined unambiguous R.all S.mem
+unfolding sound hasAllRows loopless symmetric confined unambiguous masksBelow R.all S.mem
 samples-sound = record { sound-triangle = refl; sound-chain = refl; sound-A = refl }
 
 pub record Groups : Type 0 where
@@ -40,10 +40,25 @@ pub record Groups : Type 0 where
   pub T4 : groups chain 0 ≡ set (0 ∷ 1 ∷ []) ∷ set (1 ∷ 2 ∷ []) ∷ []
   pub T5 : groups sampleA 1 ≡ set (0 ∷ 1 ∷ 2 ∷ 3 ∷ []) ∷ set (0 ∷ 2 ∷ 4 ∷ []) ∷ []
   pub T7 : groups sampleA 3 ≡ []
+  -- no group holds a masked vertex, and what only a masked vertex would extend is a group
+  pub masked-4 : groups (maskedA (set (4 ∷ []))) 1 ≡ set (0 ∷ 1 ∷ 2 ∷ 3 ∷ []) ∷ []
+  pub masked-2 : groups (maskedA (set (2 ∷ []))) 0 ≡ set (0 ∷ 1 ∷ 3 ∷ []) ∷ set (0 ∷ 4 ∷ []) ∷ []
+  pub masked-all : groups (maskedA (set (0 ∷ 1 ∷ 2 ∷ 3 ∷ 4 ∷ []))) 0 ≡ []
 
 pub cases-groups : Groups
 unfolding groups subsets choices select isGroup extension floor balanced allAgree left right vertices edgeless R.all R.count R.seek S.mem S.collect S.size S.lowest S.below
-cases-groups = record { T1 = λ k. refl; T2 = λ k. refl; T3 = refl; T4 = refl; T5 = refl; T7 = refl }
+cases-groups =
+    record {
+      T1 = λ k. refl;
+      T2 = λ k. refl;
+      T3 = refl;
+      T4 = refl;
+      T5 = refl;
+      T7 = refl;
+      masked-4 = refl;
+      masked-2 = refl;
+      masked-all = refl;
+    }
 
 -- the sides that T3 to T5 print
 pub record Sides : Type 0 where
@@ -72,9 +87,15 @@ pub record Verdicts : Type 0 where
   pub empty : verdict sampleA 1 (set []) ≡ Empty
   pub outside : verdict sampleA 1 (set (0 ∷ 60 ∷ 63 ∷ [])) ≡ OutOfRange 60
   pub T5-group : verdict sampleA 1 (set (0 ∷ 1 ∷ 2 ∷ 3 ∷ [])) ≡ Group (set (0 ∷ 1 ∷ [])) (set (2 ∷ 3 ∷ []))
+  -- the lowest masked vertex, before a missing edge; but out of range and alone come first
+  pub masked : verdict (maskedA (set (1 ∷ 4 ∷ []))) 1 (set (0 ∷ 1 ∷ 4 ∷ [])) ≡ Masked 1
+  pub masked-outside : verdict (maskedA (set (0 ∷ []))) 1 (set (0 ∷ 60 ∷ [])) ≡ OutOfRange 60
+  pub masked-alone : (k : ℕ) → verdict (maskedA (set (0 ∷ []))) k (set (0 ∷ [])) ≡ Alone
+  -- T9, where no vertex extends the set but masked ones
+  pub masked-extends : verdict (maskedA (set (1 ∷ 3 ∷ 4 ∷ []))) 1 (set (0 ∷ 2 ∷ [])) ≡ Group (set (0 ∷ [])) (set (2 ∷ []))
 
 pub cases-verdicts : Verdicts
-unfolding verdict firstOutside missingFirst missingSecond oddFirst oddSecond oddThird extension floor balanced allAgree left right vertices edgeless R.all R.count R.seek S.mem S.collect S.size S.lowest S.below
+unfolding verdict firstOutside firstMasked missingFirst missingSecond oddFirst oddSecond oddThird extension floor balanced allAgree left right vertices edgeless R.all R.count R.seek S.mem S.collect S.size S.lowest S.below
 cases-verdicts =
     record {
       T8 = refl;
@@ -88,6 +109,10 @@ cases-verdicts =
       empty = refl;
       outside = refl;
       T5-group = refl;
+      masked = refl;
+      masked-outside = refl;
+      masked-alone = λ k. refl;
+      masked-extends = refl;
     }
 
 -- their numbers and values
@@ -98,6 +123,7 @@ pub record Values : Type 0 where
   pub empty : valuesOf (verdict sampleA 1 (set [])) ≡ 1 ∷ []
   pub outside : valuesOf (verdict sampleA 1 (set (0 ∷ 60 ∷ 63 ∷ []))) ≡ 2 ∷ 60 ∷ []
   pub alone : valuesOf (verdict (edgeless 1) 0 (set (0 ∷ []))) ≡ 8 ∷ []
+  pub masked : valuesOf (verdict (maskedA (set (1 ∷ 4 ∷ []))) 1 (set (0 ∷ 1 ∷ 4 ∷ []))) ≡ 9 ∷ 1 ∷ []
   pub T8 : valuesOf (verdict sampleA 1 (set (0 ∷ 1 ∷ 4 ∷ []))) ≡ 3 ∷ 1 ∷ 4 ∷ []
   pub T10 : valuesOf (verdict triangle 1 (set (0 ∷ 1 ∷ 2 ∷ []))) ≡ 4 ∷ 0 ∷ 1 ∷ 2 ∷ []
   pub T11 : valuesOf (verdict sampleA 2 (set (0 ∷ 2 ∷ 4 ∷ []))) ≡ 5 ∷ 2 ∷ 1 ∷ []
@@ -111,6 +137,7 @@ cases-values =
       empty = ap valuesOf (c .empty);
       outside = ap valuesOf (c .outside);
       alone = ap valuesOf (c .T2-alone 0);
+      masked = ap valuesOf (c .masked);
       T8 = ap valuesOf (c .T8);
       T10 = ap valuesOf (c .T10);
       T11 = ap valuesOf (c .T11);

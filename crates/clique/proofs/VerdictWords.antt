@@ -1,12 +1,12 @@
 -- The verdict is the first that applies, in document 01's words, and no other is. Assumes nothing.
-use Prim.Native.Nat.{ℕ, zero, suc, _^_, _<_}
+use Prim.Native.Nat.{ℕ, zero, suc, _^_, _≤_, _<_}
 use native.Mathlib.Nat.{lt-of-lt-of-le}
 use native.Mathlib.Omega.{arith}
 use mathlib.Core.Path.{_≡_, refl, sym, ap, ap₂, _∙_, subst}
 use mathlib.Core.Logic.{_≢_, _⊎_, inl, inr, ⊎-elim, _↔_}
 use mathlib.Core.Bool.{true, false, not, _&&_}
 use lib.Dec.{leb, ltb, eqb}
-use borrow.Author.Tests.{lt-ltb, ltb-false, leb-true, le-leb, eqb-true, eq-eqb, ne-eqb, not-true, not-false}
+use borrow.Author.Tests.{ltb-false, leb-true, le-leb, eqb-true, eqb-false, eq-eqb, ne-eqb, not-true, not-false}
 use Rattle.vertex_set.specs.Alternatives.{_orElse_}
 use Rattle.vertex_set.specs.Sets.{mem, Subset, insert, size, lowest}
 use Rattle.vertex_set.proofs.Alternatives.{applies, passes-by, first-of}
@@ -14,24 +14,24 @@ use Rattle.vertex_set.proofs.Booleans.{clash, refute, cases, and-intro, and-lef
 use Rattle.vertex_set.proofs.Collections.{insert-in}
 use Rattle.vertex_set.proofs.Membership.{mem-lt, mem-pos, mem-none, set-ext}
 use Rattle.vertex_set.proofs.LowestVertex.{lowest-in}
-use Rattle.vertex_set.proofs.Sizes.{size-pos}
+use Rattle.vertex_set.proofs.Sizes.{size-pos, pos-size}
 use Rattle.vertex_set.proofs.SizeBounds.{size-one, one-only}
 use Rattle.signed_graph.specs.declared.SignedGraph.{SignedGraph}
 use Rattle.signed_graph.specs.declared.Refusal.{Refusal}
 use Rattle.signed_graph.specs.Graphs.{edge, vertices}
 use Rattle.signed_graph.specs.Thresholds.{Threshold}
-use Rattle.signed_graph.proofs.Soundness.{Sound, mem-vertices}
+use Rattle.signed_graph.proofs.Soundness.{Sound}
 use Rattle.clique.specs.declared.Verdict.{Verdict}
 use Rattle.clique.specs.declared.Verdict.the-variants as Is
 use Rattle.clique.specs.declared.Classified.the-variants.{As, Refused}
 use Rattle.clique.specs.Balance.{Balanced, balanced, left, right}
 use Rattle.clique.specs.Groups.{floor, Group, extension}
-use Rattle.clique.specs.Stages.{fromAlone, fromEdges, fromTriples, fromSides, fromExtension}
-use Rattle.clique.specs.Verdicts.{verdictPlace, Lowest, FirstPair, FirstTriple, NoVertex, Outside, OneVertex, MissingPair, negativeAmong, UnbalancedTriple, SmallSides, Extends, Applies, FirstVerdict, firstOutside, outOfRange, lacksEdge, missingSecond, missingFirst, oddTriple, oddThird, oddSecond, oddFirst, verdict}
+use Rattle.clique.specs.Stages.{fromAlone, fromMasks, fromEdges, fromTriples, fromSides, fromExtension}
+use Rattle.clique.specs.Verdicts.{verdictPlace, Lowest, FirstPair, FirstTriple, NoVertex, Outside, OneVertex, MaskedMember, MissingPair, negativeAmong, UnbalancedTriple, SmallSides, Extends, Applies, FirstVerdict, firstOutside, outOfRange, firstMasked, lacksEdge, missingSecond, missingFirst, oddTriple, oddThird, oddSecond, oddFirst, verdict}
 use Rattle.clique.proofs.Balance.{usable-lt, balanced-words, words-balanced, balanced-sides, is-left, is-right}
 use Rattle.clique.proofs.FirstFound.{Tests, found-lowest, lowest-found, found-pair, pair-found, found-triple, triple-found}
 use Rattle.clique.proofs.Groups.{single-maximal, none-extends}
-use Rattle.clique.proofs.Verdicts.{inside, none-outside, missing-none, odd-none, complete-lacks, even-balanced, balanced-even, group-verdict}
+use Rattle.clique.proofs.Verdicts.{all-below, none-outside, inside, missing-none, odd-none, complete-lacks, even-balanced, balanced-even, group-verdict}
 
 -- ---- what passes a test is what the words say, and the data are those that the tests find
 
@@ -52,6 +52,17 @@ outside-tests g s s64 =
       passes = λ p x. and-intro (mem p s) (leb (g .n) p) (x .member) (le-leb (g .n) p (x .not-below));
     }
 
+masked-tests : (g : SignedGraph) (s : ℕ) → s < 2 ^ 64 → Tests (MaskedMember g s) 0 64 (λ p. mem p s && mem p (g .masked))
+masked-tests g s s64 =
+    record {
+      range = λ p x. (omega arith, mem-lt 64 p s s64 (x .member));
+      holds = λ p _ _ t. record {
+        member = and-left (mem p s) (mem p (g .masked)) t;
+        masked = and-right (mem p s) (mem p (g .masked)) t;
+      };
+      passes = λ p x. and-intro (mem p s) (mem p (g .masked)) (x .member) (x .masked);
+    }
+
 module _ (g : SignedGraph) (s : ℕ) (s64 : s < 2 ^ 64) where
   outside-said : ltb (firstOutside g s) 64 ≡ true → Lowest (Outside g s) (firstOutside g s)
   unfolding firstOutside
@@ -61,19 +72,26 @@ module _ (g : SignedGraph) (s : ℕ) (s64 : s < 2 ^ 64) where
   unfolding firstOutside
   outside-only = lowest-found (outside-tests g s s64) 64 refl
 
+  masked-said : ltb (firstMasked g s) 64 ≡ true → Lowest (MaskedMember g s) (firstMasked g s)
+  unfolding firstMasked
+  masked-said = found-lowest (masked-tests g s s64) 64 refl
+
+  masked-only : (p : ℕ) → Lowest (MaskedMember g s) p → (ltb (firstMasked g s) 64 ≡ true) × (firstMasked g s ≡ p)
+  unfolding firstMasked
+  masked-only = lowest-found (masked-tests g s s64) 64 refl
+
 module _ (g : SignedGraph) (so : Sound g) (s : ℕ) where
-  one-said : s < 2 ^ 64 → Subset s (vertices g) → eqb (size s) 1 ≡ true → OneVertex g s
-  one-said s64 u e =
+  one-said : s < 2 ^ 64 → ((p : ℕ) → mem p s ≡ true → p < g .n) → eqb (size s) 1 ≡ true → OneVertex g s
+  one-said s64 low e =
       let one : size s ≡ 1 = eqb-true (size s) 1 e in
       let m : mem (lowest s) s ≡ true = lowest-in s (size-pos s (omega arith)) s64 in
-      record { vertex = lowest s; member = m; only = one-only s s64 one; below = usable-lt g so s u (lowest s) m }
+      record { vertex = lowest s; member = m; only = one-only s s64 one; below = low (lowest s) m }
 
   said-one : OneVertex g s → eqb (size s) 1 ≡ true
   said-one h = eq-eqb (size s) 1 (size-one s (h .vertex) (lt-of-lt-of-le (h .below) (so .small)) (h .member) (h .only))
 
-  one-usable : OneVertex g s → Subset s (vertices g)
-  one-usable h p m =
-      mem-vertices g (so .small) p ∙ ap (λ (q : ℕ). ltb q (g .n)) (h .only p m) ∙ lt-ltb (h .vertex) (g .n) (h .below)
+  one-below : OneVertex g s → (p : ℕ) → mem p s ≡ true → p < g .n
+  one-below h p m = omega (arith, h .only p m, h .below)
 
   extends-tests : Tests (Extends g s) 0 (g .n) (λ p. not (mem p s) && balanced g (insert p s))
   extends-tests =
@@ -190,14 +208,16 @@ module _ (g : SignedGraph) (so : Sound g) (s : ℕ) (s64 : s < 2 ^ 64) (k : Thre
   verdict-applies =
       first-of (Applies g k s) (eqb s 0) _ _ (no-vertex s) (λ e1.
       first-of (Applies g k s) (ltb (firstOutside g s) 64) _ _ (outside-said g s s64) (λ e2.
-      let u = inside g so s s64 e2 in
-      first-of (Applies g k s) (eqb (size s) 1) _ _ (one-said g so s s64 u) (λ e3.
-      first-of (Applies g k s) (ltb (missingFirst g s) (g .n)) _ _ (missing-said g so s u) (λ e4.
-      first-of (Applies g k s) (ltb (oddFirst g s) (g .n)) _ _ (unbalanced-said g so s u) (λ e5.
-      let b = even-balanced g so s u (missing-none g s e4) (odd-none g s e5) in
-      first-of (Applies g k s) (not (floor k (size l) (size r))) _ _ (small-said b) (λ e6.
-      first-of (Applies g k s) (ltb (extension g s) (g .n)) _ _ (extension-said g so s) (λ e7.
-      (group-said b e6 e7, balanced-sides g so s b))))))))
+      let low = all-below g so s s64 e2 in
+      first-of (Applies g k s) (eqb (size s) 1) _ _ (one-said g so s s64 low) (λ e3.
+      first-of (Applies g k s) (ltb (firstMasked g s) 64) _ _ (masked-said g s s64) (λ e4.
+      let u = inside g so s s64 low e4 in
+      first-of (Applies g k s) (ltb (missingFirst g s) (g .n)) _ _ (missing-said g so s u) (λ e5.
+      first-of (Applies g k s) (ltb (oddFirst g s) (g .n)) _ _ (unbalanced-said g so s u) (λ e6.
+      let b = even-balanced g so s u (missing-none g s e5) (odd-none g s e6) in
+      first-of (Applies g k s) (not (floor k (size l) (size r))) _ _ (small-said b) (λ e7.
+      first-of (Applies g k s) (ltb (extension g s) (g .n)) _ _ (extension-said g so s) (λ e8.
+      (group-said b e7 e8, balanced-sides g so s b)))))))))
 
   -- where no verdict at a place before i applies, the tests of these fail
   module _ (i : ℕ) (none : (w : Verdict) → verdictPlace w < i → Applies g k s w → ⊥) where
@@ -208,37 +228,46 @@ module _ (g : SignedGraph) (so : Sound g) (s : ℕ) (s64 : s < 2 ^ 64) (k : Thre
     no-outside : 2 < i → ltb (firstOutside g s) 64 ≡ false
     no-outside h = refute (ltb (firstOutside g s) 64) (λ t. none (Is.OutOfRange _) h (outside-said g s s64 t))
 
-    usable : 2 < i → Subset s (vertices g)
-    usable h = inside g so s s64 (no-outside h)
+    low : 2 < i → (p : ℕ) → mem p s ≡ true → p < g .n
+    low h = all-below g so s s64 (no-outside h)
 
     skip-range : 2 < i → verdict g k s ≡ fromAlone g k s
     skip-range h = skip-empty (omega arith) ∙ passes-by (ltb (firstOutside g s) 64) _ _ (no-outside h)
 
     not-one : 3 < i → eqb (size s) 1 ≡ false
-    not-one h = refute (eqb (size s) 1) (λ t. none Is.Alone h (one-said g so s s64 (usable (omega arith)) t))
+    not-one h = refute (eqb (size s) 1) (λ t. none Is.Alone h (one-said g so s s64 (low (omega arith)) t))
 
-    skip-one : 3 < i → verdict g k s ≡ fromEdges g k s
+    skip-one : 3 < i → verdict g k s ≡ fromMasks g k s
     skip-one h = skip-range (omega arith) ∙ passes-by (eqb (size s) 1) _ _ (not-one h)
 
-    no-missing : 4 < i → ltb (missingFirst g s) (g .n) ≡ false
+    no-masked : 4 < i → ltb (firstMasked g s) 64 ≡ false
+    no-masked h = refute (ltb (firstMasked g s) 64) (λ t. none (Is.Masked _) h (masked-said g s s64 t))
+
+    usable : 4 < i → Subset s (vertices g)
+    usable h = inside g so s s64 (low (omega arith)) (no-masked h)
+
+    skip-masks : 4 < i → verdict g k s ≡ fromEdges g k s
+    skip-masks h = skip-one (omega arith) ∙ passes-by (ltb (firstMasked g s) 64) _ _ (no-masked h)
+
+    no-missing : 5 < i → ltb (missingFirst g s) (g .n) ≡ false
     no-missing h =
         refute (ltb (missingFirst g s) (g .n)) (λ t. none (Is.MissingEdge _ _) h (missing-said g so s (usable (omega arith)) t))
 
-    skip-edges : 4 < i → verdict g k s ≡ fromTriples g k s
-    skip-edges h = skip-one (omega arith) ∙ passes-by (ltb (missingFirst g s) (g .n)) _ _ (no-missing h)
+    skip-edges : 5 < i → verdict g k s ≡ fromTriples g k s
+    skip-edges h = skip-masks (omega arith) ∙ passes-by (ltb (missingFirst g s) (g .n)) _ _ (no-missing h)
 
-    no-unbalanced : 5 < i → ltb (oddFirst g s) (g .n) ≡ false
+    no-unbalanced : 6 < i → ltb (oddFirst g s) (g .n) ≡ false
     no-unbalanced h =
         refute (ltb (oddFirst g s) (g .n)) (λ t. none (Is.Unbalanced _ _ _) h (unbalanced-said g so s (usable (omega arith)) t))
 
-    skip-triples : 5 < i → verdict g k s ≡ fromSides g k s
+    skip-triples : 6 < i → verdict g k s ≡ fromSides g k s
     skip-triples h = skip-edges (omega arith) ∙ passes-by (ltb (oddFirst g s) (g .n)) _ _ (no-unbalanced h)
 
-    is-balanced : 5 < i → balanced g s ≡ true
+    is-balanced : 6 < i → balanced g s ≡ true
     is-balanced h =
         even-balanced g so s (usable (omega arith)) (missing-none g s (no-missing (omega arith))) (odd-none g s (no-unbalanced h))
 
-    skip-sides : 6 < i → verdict g k s ≡ fromExtension g s
+    skip-sides : 7 < i → verdict g k s ≡ fromExtension g s
     skip-sides h =
         skip-triples (omega arith)
         ∙ passes-by (not (floor k (size l) (size r))) _ _
@@ -251,21 +280,24 @@ module _ (g : SignedGraph) (so : Sound g) (s : ℕ) (s64 : s < 2 ^ 64) (k : Thre
       let f = outside-only g s s64 p (h .applies) in
       skip-empty 2 (h .first) (omega arith) ∙ applies (ltb (firstOutside g s) 64) _ _ (f .0) ∙ ap Is.OutOfRange (f .1)
   first-is Is.Alone h = skip-range 3 (h .first) (omega arith) ∙ applies (eqb (size s) 1) _ _ (said-one g so s (h .applies))
+  first-is (Is.Masked p) h =
+      let f = masked-only g s s64 p (h .applies) in
+      skip-one 4 (h .first) (omega arith) ∙ applies (ltb (firstMasked g s) 64) _ _ (f .0) ∙ ap Is.Masked (f .1)
   first-is (Is.MissingEdge p q) h =
-      let f = missing-only g so s (usable 4 (h .first) (omega arith)) p q (h .applies) in
-      skip-one 4 (h .first) (omega arith) ∙ applies (ltb (missingFirst g s) (g .n)) _ _ (f .0) ∙ cc (f .1, f .2)
+      let f = missing-only g so s (usable 5 (h .first) (omega arith)) p q (h .applies) in
+      skip-masks 5 (h .first) (omega arith) ∙ applies (ltb (missingFirst g s) (g .n)) _ _ (f .0) ∙ cc (f .1, f .2)
   first-is (Is.Unbalanced p q r) h =
-      let f = unbalanced-only g so s (usable 5 (h .first) (omega arith)) p q r (h .applies) in
-      skip-edges 5 (h .first) (omega arith) ∙ applies (ltb (oddFirst g s) (g .n)) _ _ (f .0) ∙ cc (f .1, f .2, f .3)
+      let f = unbalanced-only g so s (usable 6 (h .first) (omega arith)) p q r (h .applies) in
+      skip-edges 6 (h .first) (omega arith) ∙ applies (ltb (oddFirst g s) (g .n)) _ _ (f .0) ∙ cc (f .1, f .2, f .3)
   first-is (Is.TooSmall x y) h =
       let a = h .applies in
       let ex : size l ≡ x = ap size (sym (is-left g so s (a .left-side) (a .right-side) s64 (a .sides))) ∙ sym (a .left-size) in
       let ey : size r ≡ y = ap size (sym (is-right g so s (a .left-side) (a .right-side) s64 (a .sides))) ∙ sym (a .right-size) in
-      skip-triples 6 (h .first) (omega arith)
+      skip-triples 7 (h .first) (omega arith)
       ∙ applies (not (floor k (size l) (size r))) _ _ (ap not (ap₂ (floor k) ex ey ∙ a .too-small)) ∙ ap₂ Is.TooSmall ex ey
   first-is (Is.Extensible p) h =
       let f = extension-only g so s p (h .applies) in
-      skip-sides 7 (h .first) (omega arith) ∙ applies (ltb (extension g s) (g .n)) _ _ (f .0) ∙ ap Is.Extensible (f .1)
+      skip-sides 8 (h .first) (omega arith) ∙ applies (ltb (extension g s) (g .n)) _ _ (f .0) ∙ ap Is.Extensible (f .1)
   first-is (Is.Group x y) h =
       group-verdict g so s s64 k (h .applies .0)
       ∙ ap₂ Is.Group (sym (is-left g so s x y s64 (h .applies .1))) (sym (is-right g so s x y s64 (h .applies .1)))
@@ -288,9 +320,27 @@ module _ (g : SignedGraph) (so : Sound g) (s : ℕ) (s64 : s < 2 ^ 64) (k : Thre
   alone-exact = (
     λ h.
         passes-by (eqb s 0) _ _ (ne-eqb s 0 (λ z. omega (arith, mem-pos (h .vertex) s (h .member))))
-        ∙ passes-by (ltb (firstOutside g s) 64) _ _ (none-outside g so s s64 (one-usable g so s h))
+        ∙ passes-by (ltb (firstOutside g s) 64) _ _ (none-outside g so s s64 (one-below g so s h))
         ∙ applies (eqb (size s) 1) _ _ (said-one g so s h),
     λ e. subst (Applies g k s) e verdict-applies,
+  )
+
+  -- masked, at every threshold, exactly where s has two vertices or more, all below n, and some of them are masked; p is the lowest
+  pub masked-exact : (p : ℕ)
+      → (Lowest (MaskedMember g s) p × (2 ≤ size s) × ((q : ℕ) → mem q s ≡ true → q < g .n)) ↔ (verdict g k s ≡ Is.Masked p)
+  unfolding verdict
+  masked-exact p = (
+    λ h.
+        let f = masked-only g s s64 p (h .0) in
+        passes-by (eqb s 0) _ _ (ne-eqb s 0 (λ z. omega (arith, mem-pos p s (h .0 .holds .member))))
+        ∙ passes-by (ltb (firstOutside g s) 64) _ _ (none-outside g so s s64 (h .2))
+        ∙ passes-by (eqb (size s) 1) _ _ (ne-eqb (size s) 1 (λ z. omega (arith, h .1)))
+        ∙ applies (ltb (firstMasked g s) 64) _ _ (f .0) ∙ ap Is.Masked (f .1),
+    λ e.
+        let h : FirstVerdict g k s (Is.Masked p) = subst (FirstVerdict g k s) e verdict-first in
+        let one = eqb-false (size s) 1 (not-one 4 (h .first) (omega arith)) in
+        let some = pos-size s (mem-pos p s (h .applies .holds .member)) s64 in
+        (h .applies, omega arith, low 4 (h .first) (omega arith)),
   )
 
   -- the answer of a call that is accepted

@@ -16,7 +16,7 @@ use Rattle.signed_graph.specs.declared.Check.{Check}
 use Rattle.signed_graph.specs.declared.Check.the-variants.{Accepted, Refused}
 use Rattle.signed_graph.specs.Graphs.{edgeless, edgeCount}
 use Rattle.signed_graph.specs.Samples.{triangle, chain, sampleA}
-use Rattle.signed_graph.specs.Soundness.{sound, hasAllRows, loopless, symmetric, confined, unambiguous}
+use Rattle.signed_graph.specs.Soundness.{sound, hasAllRows, loopless, symmetric, confined, unambiguous, masksBelow}
 use Rattle.signed_graph.specs.Calls.{checkBy, checkOf, checkNumber}
 use Rattle.clique.specs.declared.Classified.the-variants.{As}
 use Rattle.clique.specs.declared.Verdict.the-variants.{Alone, MissingEdge, Unbalanced, TooSmall, Extensible}
@@ -108,11 +108,11 @@ check-of : (g : SignedGraph) (k : ℕ) → sound g ≡ true → k ≤ 32 → che
 check-of g k e h = ap₂ checkBy e (le-leb k 32 h)
 
 sound-0 : sound (edgeless 0) ≡ true
-unfolding edgeless sound hasAllRows loopless symmetric confined unambiguous R.all S.mem
+unfolding edgeless sound hasAllRows loopless symmetric confined unambiguous masksBelow R.all S.mem
 sound-0 = refl
 
 sound-1 : sound (edgeless 1) ≡ true
-unfolding edgeless sound hasAllRows loopless symmetric confined unambiguous R.all S.mem
+unfolding edgeless sound hasAllRows loopless symmetric confined unambiguous masksBelow R.all S.mem
 sound-1 = refl
 
 -- ---- their listings

@@ -12,7 +12,7 @@ use Rattle.vertex_set.specs.Lists.{All}
 use Rattle.vertex_set.specs.Sets.{size, lowest}
 use Rattle.vertex_set.proofs.Lists.{mem-all}
 use Rattle.signed_graph.specs.declared.SignedGraph.{SignedGraph}
-use Rattle.signed_graph.specs.Graphs.{withTables}
+use Rattle.signed_graph.specs.Graphs.{vertices, withTables}
 use Rattle.signed_graph.specs.Soundness.{sound}
 use Rattle.signed_graph.specs.Calls.{checkBy, checkNumber}
 use Rattle.signed_graph.proofs.Soundness.{to-sound}
@@ -161,12 +161,12 @@ module _ (g : SignedGraph) (k : Threshold) (so : sound g ≡ true) where
       let lx = listing-exact g gs k y .0 (largest-found (listing g k) (listing-sorted g gs k) y e .listed) in
       omega (arith, group-two (lx .group))
 
-  module _ (d : Node) (table : List ℕ) (best : Best) (root : Root g d)
-      (bounds : SizeTable (g .n) (g .positive) (g .negative) table) (went : Finds table (g .positive) (g .negative) k d nothing best) where
+  module _ (d : Node) (all : ℕ) (is : all ≡ vertices g) (table : List ℕ) (best : Best) (root : Root g d)
+      (bounds : SizeTable (g .n) all (g .positive) (g .negative) table) (went : Finds table (g .positive) (g .negative) k d nothing best) where
     best-is : best ≡ against nothing (largestOf (listing g k))
     unfolding due
     best-is =
-        went g so (root .valid) (bounds g so refl)
+        went g so (root .valid) (bounds g so refl (sym is))
         ∙ ap (bestOf nothing) (all-due g (to-sound g so) k Start d root) ∙ best-largest nothing (listing g k)
 
     some-best : (y : Item) → largestOf (listing g k) ≡ some y → best ≡ bestItem y

@@ -257,7 +257,7 @@ fn largest_sound(g: SignedGraph, k: u64) -> LargestGroup
     };
     let all = signed_graph::vertices(g);
     let root = nodes::root(all, &g.positive, &g.negative);
-    let table = bounds::size_table(g.n, &g.positive, &g.negative);
+    let table = bounds::size_table(g.n, all, &g.positive, &g.negative);
     let hunt = largest_below(
         root.left.chosen,
         root.left.candidates,

@@ -4,7 +4,7 @@ use native.Mathlib.Nat.{sub-zero}
 use native.Mathlib.Omega.{arith}
 use mathlib.Core.Path.{_≡_, sym, ap, ap₂, _∙_, subst, fun-ext}
 use mathlib.Core.Logic.{_≢_, ⊎-elim}
-use mathlib.Core.Bool.{Bool, true, false, _&&_, and-comm}
+use mathlib.Core.Bool.{Bool, true, false, not, _&&_, and-comm}
 use mathlib.Core.List.{List, [], _∷_}
 use lib.Bits.{bitAnd}
 use lib.ListN.{length}
@@ -19,13 +19,13 @@ use Rattle.signed_graph.specs.declared.SignedGraph.{SignedGraph}
 use Rattle.signed_graph.specs.Graphs.{positiveEdge, negativeEdge, vertices}
 use Rattle.signed_graph.specs.Soundness.{sound}
 use Rattle.signed_graph.specs.Calls.{checkBy}
-use Rattle.signed_graph.proofs.Soundness.{Sound, to-sound, from-sound}
+use Rattle.signed_graph.proofs.Soundness.{Sound, to-sound, from-sound, vertex-unmasked}
 use Rattle.clique.specs.Balance.{Split, Balanced, Sides, left, right}
 use Rattle.clique.specs.Groups.{Group, groups}
 use Rattle.vertex_set.specs.Order.{subsets}
 use Rattle.clique.proofs.Balance.{usable-64, other-side, split-swap, split-part, split-balanced, is-left, is-right, one-split}
 use Rattle.clique.proofs.Groups.{floor-least, group-pos, group-words, words-group}
-use Rattle.reduction.specs.Collections.{Collection, allEdges, Inside, atLeast, vertexFits, positiveFits, negativeFits, Fits}
+use Rattle.reduction.specs.Collections.{Collection, allEdges, unmaskedEnds, unmaskedEdges, Inside, atLeast, vertexFits, positiveFits, negativeFits, Fits}
 use Rattle.reduction.specs.Reductions.{Reduction, reducedGraph, looks, reducedBy, reduced}
 use Rattle.reduction.proofs.Reductions.{rounds-reduce, reduction-sound}
 
@@ -120,32 +120,44 @@ carried-group x b sides most =
       maximal = most;
     }
 
+-- the edges within a set of vertices that are not masked
+within-unmasked : (g : SignedGraph) (s : ℕ) → Subset s (vertices g) → Inside (within g s) (unmaskedEdges g)
+within-unmasked g s u =
+    record { positive = λ p q. ends (positiveEdge g p q) p q; negative = λ p q. ends (negativeEdge g p q) p q }
+  where
+    ends : (e : Bool) (p q : ℕ) → (mem p s && mem q s && e) ≡ true → (e && unmaskedEnds g p q) ≡ true
+    ends e p q h =
+        let m = and-left (mem p s && mem q s) e h in
+        and-intro e _ (and-right (mem p s && mem q s) e h)
+        (and-intro _ _ (ap not (vertex-unmasked g p (u p (and-left _ _ m)))) (ap not (vertex-unmasked g q (u q (and-right (mem p s) _ m)))))
+
 module _ (g r : SignedGraph) (k : ℕ) (so : Sound g) (sr : Sound r) (red : Reduction g k r) where
+  same-vertices : vertices r ≡ vertices g
+  unfolding vertices
+  same-vertices = rw (red .same-n, red .same-masks)
+
   split-out : {s a b : ℕ} → Split r s a b → Split g s a b
   split-out {s} sp =
       carried r sr g (record {
-        positive = λ p q e. red .inside .positive p q (and-right (mem p s && mem q s) _ e);
-        negative = λ p q e. red .inside .negative p q (and-right (mem p s && mem q s) _ e);
+        positive = λ p q e. and-left _ _ (red .inside .positive p q (and-right (mem p s && mem q s) _ e));
+        negative = λ p q e. and-left _ _ (red .inside .negative p q (and-right (mem p s && mem q s) _ e));
       }) sp
 
   balanced-out : {s : ℕ} → Balanced r s → Balanced g s
-  unfolding vertices
-  balanced-out b = split-balanced g so (rw (red .same-n) at (b .usable)) (split-out (b .split))
+  balanced-out b = split-balanced g so (rw same-vertices at (b .usable)) (split-out (b .split))
 
-  split-in : {s a b : ℕ} → Split g s a b → k ≤ size a → k ≤ size b → Split r s a b
-  split-in {s} sp x y =
+  split-in : {s a b : ℕ} → Subset s (vertices g) → Split g s a b → k ≤ size a → k ≤ size b → Split r s a b
+  split-in {s} u sp x y =
       carried g so r
       (red .largest (within g s)
       (record {
         positive = λ p q. ap₂ _&&_ (and-comm (mem p s) (mem q s)) (so .positives .symmetric p q);
         negative = λ p q. ap₂ _&&_ (and-comm (mem p s) (mem q s)) (so .negatives .symmetric p q);
       })
-      (record { positive = λ p q. and-right (mem p s && mem q s) _; negative = λ p q. and-right (mem p s && mem q s) _ })
-      (within-fits g so k s sp x y)) sp
+      (within-unmasked g s u) (within-fits g so k s sp x y)) sp
 
   balanced-in : {s a b : ℕ} → Balanced g s → Split g s a b → (k ≤ size a) × (k ≤ size b) → Balanced r s
-  unfolding vertices
-  balanced-in b sp f = split-balanced r sr (rw (← red .same-n) at (b .usable)) (split-in sp (f .0) (f .1))
+  balanced-in b sp f = split-balanced r sr (rw same-vertices (b .usable)) (split-in (b .usable) sp (f .0) (f .1))
 
   module _ (s : ℕ) (h : Group r k s) where
     sides-out : Sides g s (h .left-side) (h .right-side)
@@ -174,7 +186,7 @@ module _ (g r : SignedGraph) (k : ℕ) (so : Sound g) (sr : Sound r) (red : Redu
     sides-in : Sides r s (h .left-side) (h .right-side)
     sides-in =
         let f = floor-least k _ _ (h .enough) in
-        record { split = split-in (h .sides .split) (f .0) (f .1); lowest-left = h .sides .lowest-left }
+        record { split = split-in (h .balanced .usable) (h .sides .split) (f .0) (f .1); lowest-left = h .sides .lowest-left }
 
     group-in : Group r k s
     group-in =

@@ -13,7 +13,7 @@ use Rattle.vertex_set.proofs.Ranges.{seek-is}
 use Rattle.signed_graph.specs.declared.SignedGraph.{SignedGraph}
 use Rattle.signed_graph.proofs.Soundness.{Sound}
 use Rattle.signed_graph.proofs.EdgeCounts.{edges-most}
-use Rattle.reduction.specs.Reductions.{round, fallen, looksAt, start, dropsNothing, mostRounds, lastRound, reducedGraph, looks}
+use Rattle.reduction.specs.Reductions.{unmasked, round, fallen, looksAt, start, dropsNothing, mostRounds, lastRound, reducedGraph, looks}
 use Rattle.reduction.proofs.Reductions.{sound-at, fewer-at}
 use Rattle.reduction.proofs.Looks.{looksIn, looks-at-most, looks-before}
 
@@ -25,7 +25,7 @@ pub record Reached (g : SignedGraph) (k : ℕ) (kept : SignedGraph) (look total 
   pub looks-are : total ≡ sum number (looksIn g k)
   pub dropped : (j : ℕ) → j < number → dropsNothing g k j ≡ false
 
-pub reached-first : (g : SignedGraph) (k : ℕ) → Reached g k g (below (g .n)) 0
+pub reached-first : (g : SignedGraph) (k : ℕ) → Reached g k (unmasked g) (below (g .n)) 0
 unfolding start sum
 reached-first g k =
     record { number = 0; graph-is = refl; look-is = refl; looks-are = refl; dropped = λ j l. absurd (omega arith) }
@@ -42,7 +42,7 @@ module _ {g : SignedGraph} {k : ℕ} (so : Sound g) {kept : SignedGraph} {look t
 
   -- there are at most 2,016 before it
   few : r .number < mostRounds
-  few = omega (arith, fewer-at g k so (r .number) (r .dropped), edges-most g)
+  few = omega (arith, fewer-at g k so (r .number) (r .dropped), edges-most (unmasked g))
 
   pub reached-most : total + looksAt kept look ≤ 2017 * 2080
   reached-most =

@@ -45,6 +45,7 @@ fn print_verdict(verdict: Verdict) {
         Verdict::Empty => print_data(1, 0, 0, 0),
         Verdict::OutOfRange(p) => print_data(2, p as u64, 0, 0),
         Verdict::Alone => print_data(8, 0, 0, 0),
+        Verdict::Masked(p) => print_data(9, p as u64, 0, 0),
         Verdict::MissingEdge(p, q) => print_data(3, p as u64, q as u64, 0),
         Verdict::Unbalanced(p, q, r) => print_data(4, p as u64, q as u64, r as u64),
         Verdict::TooSmall(l, r) => print_data(5, l, r, 0),

@@ -19,7 +19,7 @@ module _ (v : ℕ) (small : v < 64) where
   unfolding single
   single-lt = collect-lt (λ q. eqb q v) 64
 
-  single-in : mem v (single v) ≡ true
+  pub single-in : mem v (single v) ≡ true
   single-in = mem-single v v small ∙ eq-eqb v v refl
 
   pub single-is : (p : ℕ) → mem p (single v) ≡ true → p ≡ v

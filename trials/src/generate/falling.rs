@@ -2,6 +2,7 @@
 
 use super::graphs::{balanced_on, forest, planted, sign_noise, with_density};
 use super::isolated::isolating;
+use super::masks::{masking, with_masked};
 use super::random::Rng;
 use super::traps::shuffled;
 use crate::reference::SignedGraph;
@@ -23,6 +24,7 @@ pub fn falling(rng: &mut Rng) -> (SignedGraph, u64) {
         _ => (planted(rng), rng.between(1, 8)),
     };
     let graph = isolating(rng, graph, 64);
+    let graph = masking(rng, graph);
     (shuffled(rng, &graph), k)
 }
 
@@ -42,7 +44,8 @@ fn tree(rng: &mut Rng, near: u64) -> (SignedGraph, u64) {
 /// The vertices of one side.
 const EVEN: u64 = 0x5555_5555_5555_5555;
 
-/// A balanced clique with a tail, a threshold k, and how many edges fall for k: one in each round.
+/// A balanced clique with a tail, now and then masked vertices, a threshold k, and how many edges fall for k: one in each
+/// round.
 ///
 /// The clique is on the vertices from `tail` up. Even vertices are on one side, odd ones on the other. Each vertex of
 /// the tail has edges with the next two, with k - 2 of the clique on either side, and with two more of it across. So
@@ -65,6 +68,10 @@ pub fn with_tail(rng: &mut Rng) -> (SignedGraph, u64, usize) {
                 graph.add(u, v, !across);
             }
         }
+    }
+    if rng.chance(30) {
+        let n = rng.between(n, 64);
+        graph = with_masked(rng, graph, n);
     }
     (graph, k, tail as usize - 1)
 }

@@ -1,7 +1,9 @@
 //! Sound graphs of many families, each with a moderate number of groups.
 
 use super::isolated::{isolating, nearly_empty};
+use super::masks::{masking, with_masked};
 use super::random::Rng;
+use super::traps::shuffled;
 use crate::reference::SignedGraph;
 
 /// A number of vertices up to `most`; the ends of the range come up often.
@@ -17,19 +19,20 @@ pub fn size(rng: &mut Rng, most: u64) -> u64 {
 
 /// A graph of any family.
 pub fn graph(rng: &mut Rng) -> SignedGraph {
-    let graph = match rng.below(18) {
+    let graph = match rng.below(19) {
         0..=4 => random_graph(rng, 64),
         5..=8 => planted(rng),
         9 => one_sign(rng),
         10 => two_sides(rng),
         11 => parts(rng),
         12 => complete_balanced(rng),
-        13 | 14 => nearly_empty(rng, 64),
-        15 => thin(rng),
-        16 => sparse_signs(rng),
+        13..=15 => nearly_empty(rng, 64),
+        16 => thin(rng),
+        17 => sparse_signs(rng),
         _ => small_graph(rng),
     };
-    isolating(rng, graph, 64)
+    let graph = isolating(rng, graph, 64);
+    masking(rng, graph)
 }
 
 /// A graph with many groups for small thresholds.
@@ -44,7 +47,8 @@ pub fn rich_graph(rng: &mut Rng) -> SignedGraph {
             with_density(rng, n, density, negative)
         }
     };
-    isolating(rng, graph, 64)
+    let graph = isolating(rng, graph, 64);
+    masking(rng, graph)
 }
 
 /// A graph of 64 vertices, or near that, with up to some twenty thousand groups.
@@ -66,7 +70,8 @@ pub fn dense_graph(rng: &mut Rng) -> SignedGraph {
             graph
         }
     };
-    isolating(rng, graph, 64)
+    let graph = isolating(rng, graph, 64);
+    masking(rng, graph)
 }
 
 /// A graph of at most 12 vertices.
@@ -89,7 +94,8 @@ pub fn small_graph(rng: &mut Rng) -> SignedGraph {
         4 | 5 => random_graph(rng, 12),
         _ => nearly_empty(rng, 12),
     };
-    isolating(rng, graph, 12)
+    let graph = isolating(rng, graph, 12);
+    masking(rng, graph)
 }
 
 /// The most vertices for which a random graph of a density in percent has a moderate number of groups.
@@ -306,7 +312,8 @@ fn many_groups(rng: &mut Rng) -> SignedGraph {
 }
 
 /// A graph with so many groups for threshold 0, as long as 64 vertices are enough: balanced graphs
-/// in parts, with no edge from one to another, isolated vertices, and labels in a random order.
+/// in parts, with no edge from one to another, isolated vertices, masked ones half of the time, and
+/// labels in a random order.
 pub fn with_groups(rng: &mut Rng, number: u64) -> SignedGraph {
     // For each vertex, the number that was open when its graph was made, and its part there.
     let mut homes: Vec<(u64, usize)> = Vec::new();
@@ -329,6 +336,11 @@ pub fn with_groups(rng: &mut Rng, number: u64) -> SignedGraph {
                 graph.remove(u, v);
             }
         }
+    }
+    if rng.chance(50) {
+        let n = rng.between(graph.n, 64);
+        graph = with_masked(rng, graph, n);
+        graph = shuffled(rng, &graph);
     }
     graph
 }

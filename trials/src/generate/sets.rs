@@ -1,7 +1,7 @@
 //! Sets, thresholds, bookmarks, buffer lengths and numbers of sets.
 
 use super::random::Rng;
-use crate::reference::{split, Bookmark, SignedGraph};
+use crate::reference::{split, vertices, Bookmark, SignedGraph};
 
 /// A threshold; most are small, 0 above all, and some are over 32.
 pub fn threshold(rng: &mut Rng) -> u64 {
@@ -48,15 +48,20 @@ pub fn buffer_length(rng: &mut Rng) -> usize {
     }
 }
 
-/// A balanced set, grown vertex by vertex in a random order; often one that nothing can be added to.
+/// A balanced set, grown vertex by vertex in a random order; often one that nothing can be added to. Now and then masked
+/// vertices are taken like others.
 pub fn balanced_set(rng: &mut Rng, graph: &SignedGraph) -> u64 {
+    let mut graph = graph.clone();
+    if rng.chance(40) {
+        graph.masked = 0;
+    }
     let mut order: Vec<u64> = (0..graph.n).collect();
     rng.shuffle(&mut order);
     let limit = if rng.chance(70) { 64 } else { rng.below(8) };
     let mut set = 0u64;
     for v in order {
         let larger = set | 1 << v;
-        if u64::from(set.count_ones()) < limit && split(graph, larger).is_some() {
+        if u64::from(set.count_ones()) < limit && split(&graph, larger).is_some() {
             set = larger;
         }
     }
@@ -78,14 +83,15 @@ fn joined_set(rng: &mut Rng, graph: &SignedGraph) -> u64 {
     set
 }
 
-/// A set near a balanced one, one of joined vertices, a single vertex, or any set.
+/// A set near a balanced one, with and without masked vertices, one of joined vertices, a single vertex, or any set.
 pub fn set_to_classify(rng: &mut Rng, graph: &SignedGraph) -> u64 {
     let set = balanced_set(rng, graph);
     let one = 1u64 << rng.below(64);
     let inside = 1u64 << rng.below(graph.n.max(1));
     let below_highest = u64::MAX.checked_shr(set.leading_zeros() + 1).unwrap_or(0);
     let last_two = 3 << graph.n.saturating_sub(2);
-    match rng.below(14) {
+    let masked = any_vertex(rng, graph.masked);
+    match rng.below(18) {
         0..=2 => set,
         3 => set & !(set & set.wrapping_neg()),
         4 => set & !one,
@@ -95,7 +101,18 @@ pub fn set_to_classify(rng: &mut Rng, graph: &SignedGraph) -> u64 {
         9 => rng.next() & rng.next() & rng.next(),
         10 => set & below_highest,
         11 => rng.pick(&[inside, inside, one]),
+        12 | 13 => set & !graph.masked,
+        14 => set & !graph.masked | masked,
+        15 => rng.pick(&[masked, masked | one, masked | inside]),
         _ => joined_set(rng, graph),
+    }
+}
+
+/// The set of one vertex of a set; empty where that is empty.
+fn any_vertex(rng: &mut Rng, set: u64) -> u64 {
+    match vertices(set).as_slice() {
+        [] => 0,
+        members => 1 << rng.pick(members),
     }
 }
 

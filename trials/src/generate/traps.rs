@@ -1,6 +1,7 @@
 //! Graphs with few groups or none on which a search without the right prunes takes minutes or hours.
 
 use super::graphs::in_parts;
+use super::masks::with_masked;
 use super::random::Rng;
 use crate::reference::{left_first, listing_order, vertices, SignedGraph};
 
@@ -147,9 +148,10 @@ impl Trap {
     /// A trap of joined 5-cycles. The first of the largest groups has, of each cycle, the lowest vertex and the lower of its
     /// two partners there.
     fn of_cycles(name: String, graph: SignedGraph) -> Trap {
+        let cycles = graph.without_masked();
         // The vertices that have an edge.
-        let all = graph.positive.iter().fold(0, |all, row| all | row);
-        let apart = |v: u64| all & !graph.positive[v as usize];
+        let all = cycles.positive.iter().fold(0, |all, row| all | row);
+        let apart = |v: u64| all & !cycles.positive[v as usize];
         let (mut largest, mut left) = (0, all);
         while left != 0 {
             let lowest = u64::from(left.trailing_zeros());
@@ -175,6 +177,25 @@ impl Trap {
         self.name += ", among isolated vertices";
         self.graph.n = 64;
         self.shuffled(rng)
+    }
+
+    /// The same trap with masked vertices, 64 vertices in all, and its labels in a random order.
+    pub fn among_masked(mut self, rng: &mut Rng) -> Trap {
+        self.name += ", among masked vertices";
+        self.graph = with_masked(rng, self.graph, 64);
+        self.shuffled(rng)
+    }
+
+    /// The same graph and threshold with all vertices masked, which leaves no group.
+    pub fn all_masked(&self) -> Trap {
+        let mut graph = self.graph.clone();
+        (0..graph.n).for_each(|v| graph.mask(v));
+        Trap::with_groups(
+            format!("{}, all masked", self.name),
+            graph,
+            self.k,
+            Vec::new(),
+        )
     }
 
     /// The same trap with its labels in a random order.
@@ -207,6 +228,7 @@ pub fn relabelled(graph: &SignedGraph, labels: &[u64]) -> SignedGraph {
         renamed_graph.positive[label as usize] = renamed(graph.positive[v], labels);
         renamed_graph.negative[label as usize] = renamed(graph.negative[v], labels);
     }
+    renamed_graph.masked = renamed(graph.masked, labels);
     renamed_graph
 }
 

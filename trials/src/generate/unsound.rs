@@ -1,11 +1,14 @@
 //! Graphs that are not sound, of every kind.
 
-use super::graphs::graph;
+use super::graphs::{graph, with_density};
 use super::random::Rng;
 use crate::reference::SignedGraph;
 
 /// How many kinds of unsoundness there are.
-pub const UNSOUND_KINDS: u64 = 10;
+pub const UNSOUND_KINDS: u64 = 11;
+
+/// The kind that has a masked vertex from n up, and no other fault.
+pub const MASKED_BEYOND: u64 = 10;
 
 /// A sound graph of `low` to `high` vertices.
 fn sound(rng: &mut Rng, low: u64, high: u64) -> SignedGraph {
@@ -31,6 +34,7 @@ pub fn unsound(rng: &mut Rng, kind: u64) -> SignedGraph {
     match kind {
         0 => too_many(rng),
         1..=5 => wrong_pair(rng, kind),
+        MASKED_BEYOND => masked_beyond(rng),
         _ => beyond(rng, kind),
     }
 }
@@ -46,10 +50,13 @@ fn too_many(rng: &mut Rng) -> SignedGraph {
     graph
 }
 
-/// A fault between two vertices, or at one.
+/// A fault between two vertices, or at one; now and then one of them is masked.
 fn wrong_pair(rng: &mut Rng, kind: u64) -> SignedGraph {
     let mut graph = sound(rng, 2, 64);
     let (u, v) = two(rng, graph.n);
+    if rng.chance(30) {
+        graph.mask(rng.pick(&[u, v]) as u64);
+    }
     let (bit_u, bit_v) = (1u64 << u, 1u64 << v);
     let positive = rng.chance(50);
     graph.remove(u as u64, v as u64);
@@ -115,5 +122,21 @@ fn beyond(rng: &mut Rng, kind: u64) -> SignedGraph {
             graph.add(outside, other, positive);
         }
     }
+    graph
+}
+
+/// Masked vertices from n up; graphs of no vertices and of 63 come up often.
+fn masked_beyond(rng: &mut Rng) -> SignedGraph {
+    let mut graph = match rng.below(4) {
+        0 => SignedGraph::new(0),
+        1 => {
+            let density = rng.below(101);
+            with_density(rng, 63, density, 50)
+        }
+        _ => sound(rng, 0, 63),
+    };
+    let n = graph.n;
+    let any = rng.between(n, 63);
+    graph.masked |= rng.pick(&[1 << n, 1 << 63, 1 << any, u64::MAX << n]);
     graph
 }

@@ -12,6 +12,8 @@ pub enum Verdict {
     OutOfRange(u64),
     /// alone: a single vertex
     Alone,
+    /// parked: the lowest masked vertex
+    Masked(u64),
     /// missing: the first two vertices with no edge
     MissingEdge(u64, u64),
     /// torn: the first three vertices with one or three negative edges
@@ -36,6 +38,9 @@ pub fn classify(graph: &SignedGraph, k: u64, set: u64) -> Result<Verdict, u64> {
     }
     if members.len() == 1 {
         return Ok(Verdict::Alone);
+    }
+    if let Some(&v) = members.iter().find(|&&v| graph.is_masked(v)) {
+        return Ok(Verdict::Masked(v));
     }
     if let Some((a, b)) = missing_edge(graph, &members) {
         return Ok(Verdict::MissingEdge(a, b));

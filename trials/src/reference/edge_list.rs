@@ -1,10 +1,11 @@
 //! Edge lists (pair books): decoding (reading) and encoding (writing).
 
-use super::graph::{SignedGraph, MOST_VERTICES};
+use super::graph::{vertices, SignedGraph, MOST_VERTICES};
 
 const OPEN: u8 = 0x10;
 const POSITIVE: u8 = 0x21;
 const NEGATIVE: u8 = 0x22;
+const MASK: u8 = 0x23;
 const CLOSE: u8 = 0xff;
 
 /// Decodes an edge list, or gives the number of the refusal and its place.
@@ -26,37 +27,57 @@ pub fn decode(bytes: &[u8]) -> Result<SignedGraph, (u64, usize)> {
             Some(&CLOSE) if place + 1 < bytes.len() => return Err((9, place + 1)),
             Some(&CLOSE) => return Ok(graph),
             Some(&command) => {
-                add_edge(&mut graph, command, &bytes[place + 1..])
+                let operands = carry_out(&mut graph, command, &bytes[place + 1..])
                     .map_err(|refusal| (refusal, place))?;
-                place += 3;
+                place += 1 + operands;
             }
         }
     }
 }
 
-/// Carries out one command that gives an edge; its operands come first in `rest`.
-fn add_edge(graph: &mut SignedGraph, command: u8, rest: &[u8]) -> Result<(), u64> {
-    if command != POSITIVE && command != NEGATIVE {
-        return Err(3);
-    }
-    if rest.len() < 2 {
-        return Err(4);
-    }
-    let (a, b) = (u64::from(rest[0]), u64::from(rest[1]));
-    if a >= graph.n || b >= graph.n {
+/// Carries out one command that gives an edge or masks a vertex; its operands come first in `rest`. Gives how many they are.
+fn carry_out(graph: &mut SignedGraph, command: u8, rest: &[u8]) -> Result<usize, u64> {
+    let operands = match command {
+        POSITIVE | NEGATIVE => 2,
+        MASK => 1,
+        _ => return Err(3),
+    };
+    let operands = rest.get(..operands).ok_or(4u64)?;
+    if operands.iter().any(|&v| u64::from(v) >= graph.n) {
         return Err(5);
     }
+    let vertex = |i: usize| u64::from(operands[i]);
+    if command == MASK {
+        mask(graph, vertex(0))?;
+    } else {
+        add_edge(graph, vertex(0), vertex(1), command == POSITIVE)?;
+    }
+    Ok(operands.len())
+}
+
+/// Masks the vertex of a command, which is below n.
+fn mask(graph: &mut SignedGraph, a: u64) -> Result<(), u64> {
+    if graph.is_masked(a) {
+        return Err(15);
+    }
+    graph.mask(a);
+    Ok(())
+}
+
+/// Adds the edge of a command whose operands are below n.
+fn add_edge(graph: &mut SignedGraph, a: u64, b: u64, positive: bool) -> Result<(), u64> {
     if a == b {
         return Err(6);
     }
     if graph.is_edge(a, b) {
         return Err(7);
     }
-    graph.add(a, b, command == POSITIVE);
+    graph.add(a, b, positive);
     Ok(())
 }
 
-/// Encodes a graph in canonical (plain) form at the buffer's beginning and gives the form's length.
+/// Encodes a graph in canonical (plain) form, edges before masked vertices, at the buffer's beginning and gives the form's
+/// length.
 pub fn encode(graph: &SignedGraph, buffer: &mut [u8]) -> Result<usize, u64> {
     if !graph.is_sound() {
         return Err(10);
@@ -65,6 +86,9 @@ pub fn encode(graph: &SignedGraph, buffer: &mut [u8]) -> Result<usize, u64> {
     for (a, b, positive) in graph.edges() {
         let command = if positive { POSITIVE } else { NEGATIVE };
         form.extend([command, a as u8, b as u8]);
+    }
+    for v in vertices(graph.masked) {
+        form.extend([MASK, v as u8]);
     }
     form.push(CLOSE);
     if buffer.len() < form.len() {

@@ -6,10 +6,11 @@ use super::pages::listing_order;
 /// Up to this many vertices the groups are found among all subsets.
 const FEW_VERTICES: u64 = 12;
 
-/// The sides (left, right) of a balanced set, left with the lowest vertex; none where the set is not balanced.
+/// The sides (left, right) of a balanced set, left with the lowest vertex; none where the set is not balanced or holds
+/// a masked vertex.
 pub fn split(graph: &SignedGraph, set: u64) -> Option<(u64, u64)> {
     let members = vertices(set);
-    if members.iter().any(|&v| v >= graph.n) {
+    if members.iter().any(|&v| v >= graph.n || graph.is_masked(v)) {
         return None;
     }
     let Some(&lowest) = members.first() else {
@@ -78,7 +79,7 @@ pub fn groups_by_subsets(graph: &SignedGraph) -> Vec<(u64, u64)> {
 /// The groups for threshold 0 of a sound graph, from the maximal cliques of its signed double cover.
 ///
 /// The cover has the vertices v+ (bit v) and v- (bit 64 + v). A clique's plus half is one side of a balanced set and its
-/// minus half the other, so each set comes up twice, with its sides exchanged.
+/// minus half the other, so each set comes up twice, with its sides exchanged. A masked vertex has no part in the cover.
 pub fn groups_by_cover(graph: &SignedGraph) -> Vec<(u64, u64)> {
     let mut adjacent = vec![0u128; 128];
     for v in 0..64 {
@@ -86,7 +87,9 @@ pub fn groups_by_cover(graph: &SignedGraph) -> Vec<(u64, u64)> {
         adjacent[v] = positive | negative << 64;
         adjacent[64 + v] = positive << 64 | negative;
     }
-    let all = (0..graph.n).fold(0u128, |set, v| set | 1 << v | 1 << (64 + v));
+    let all = (0..graph.n)
+        .filter(|&v| !graph.is_masked(v))
+        .fold(0u128, |set, v| set | 1 << v | 1 << (64 + v));
     let mut cliques = Vec::new();
     maximal_cliques(&adjacent, 0, all, 0, &mut cliques);
     let sides = |clique: u128| left_first(clique as u64, (clique >> 64) as u64);

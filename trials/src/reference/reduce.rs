@@ -1,4 +1,4 @@
-//! Reduction (cutting down): the largest collection of edges that fits the degree conditions for k.
+//! Reduction (cutting down): the largest collection of edges that has no masked vertex and fits the degree conditions for k.
 
 use super::graph::{check, Edge, SignedGraph};
 
@@ -10,7 +10,7 @@ pub struct Reduced {
 }
 
 impl Reduced {
-    /// What a refused call leaves: the graph of no vertices, and no look.
+    /// What a refused call leaves: the graph of no vertices, with nothing masked, and no look.
     pub fn nothing() -> Reduced {
         Reduced {
             graph: SignedGraph::new(0),
@@ -19,13 +19,16 @@ impl Reduced {
     }
 }
 
-/// Reduces a graph for k by taking out one failing vertex's edges or one failing edge at a time until nothing fails.
-/// The looks are those of the rounds, which have to leave the same edges.
+/// Reduces a graph for k by taking out the edges of masked vertices, and then one failing vertex's edges or one failing
+/// edge at a time until nothing fails. The looks are those of the rounds, which have to leave the same edges.
 ///
 /// What fails goes on failing when other edges go, so the order of removal does not change what is left.
 pub fn reduce(graph: &SignedGraph, k: u64) -> Result<Reduced, u64> {
     check(graph, k)?;
     let mut kept = graph.clone();
+    for u in (0..kept.n).filter(|&u| graph.is_masked(u)) {
+        (0..kept.n).for_each(|v| kept.remove(u, v));
+    }
     while remove_failing(&mut kept, k) {}
     let rounds = rounds(graph, k);
     let left = rounds.last().map(|last| &last.kept);
@@ -43,11 +46,12 @@ pub struct Round {
     pub looks: u64,
 }
 
-/// The rounds of a sound graph for k, up to and with the first that drops nothing. The first looks at all vertices,
-/// each other one at those of the edges that the round before it dropped.
+/// The rounds of a sound graph for k, up to and with the first that drops nothing. The first starts with the edges that
+/// have no masked vertex and looks at all vertices, masked ones too, each other one at those of the edges that the round
+/// before it dropped.
 pub fn rounds(graph: &SignedGraph, k: u64) -> Vec<Round> {
     let vertices: Vec<u64> = (0..graph.n).collect();
-    let mut rounds = vec![round(graph.n, k, &graph.edges(), &vertices)];
+    let mut rounds = vec![round(graph.n, k, &graph.unmasked_edges(), &vertices)];
     while let Some(last) = rounds.last().filter(|last| !last.dropped.is_empty()) {
         let next = round(graph.n, k, &last.kept, &ends(&last.dropped));
         rounds.push(next);
@@ -111,11 +115,11 @@ fn remove_failing(kept: &mut SignedGraph, k: u64) -> bool {
     *kept != before
 }
 
-/// Whether every vertex and every edge of a sound graph meets its condition.
+/// Whether every vertex and every edge of a sound graph meets its condition, and no edge has a masked vertex.
 pub fn fits(graph: &SignedGraph, k: u64) -> bool {
+    let edge_fits = |u: u64, v: u64| !graph.is_masked(u) && edge_fits(graph, k, u, v);
     (0..graph.n).all(|u| {
-        vertex_fits(graph, k, u)
-            && (0..graph.n).all(|v| !graph.is_edge(u, v) || edge_fits(graph, k, u, v))
+        vertex_fits(graph, k, u) && (0..graph.n).all(|v| !graph.is_edge(u, v) || edge_fits(u, v))
     })
 }
 

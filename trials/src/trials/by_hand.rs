@@ -9,7 +9,7 @@ pub fn check() -> Result<(), String> {
 }
 
 /// The graph A of the worked cases.
-const A: [u8; 27] = [
+pub const A: [u8; 27] = [
     0x10, 5, 0x21, 0, 1, 0x22, 0, 2, 0x22, 0, 3, 0x21, 0, 4, 0x22, 1, 2, 0x22, 1, 3, 0x21, 2, 3,
     0x22, 2, 4, 0xff,
 ];

@@ -12,6 +12,7 @@ pub fn words(graph: &SignedGraph) -> Vec<u64> {
     let mut words = vec![graph.n];
     words.extend(graph.positive);
     words.extend(graph.negative);
+    words.push(graph.masked);
     words
 }
 
@@ -21,6 +22,7 @@ pub fn graph_of(words: &[u64]) -> SignedGraph {
     graph.n = words[0];
     graph.positive.copy_from_slice(&words[1..65]);
     graph.negative.copy_from_slice(&words[65..129]);
+    graph.masked = words[129];
     graph
 }
 
@@ -127,6 +129,7 @@ fn verdict_words(verdict: Verdict) -> [u64; 4] {
         Verdict::Extensible(v) => [6, v, 0, 0],
         Verdict::Group(left, right) => [7, left, right, 0],
         Verdict::Alone => [8, 0, 0, 0],
+        Verdict::Masked(v) => [9, v, 0, 0],
     }
 }
 

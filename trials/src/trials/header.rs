@@ -4,10 +4,10 @@
 use super::tally::Tally;
 use std::path::Path;
 
-const NUMBERS: [(&str, u64); 35] = [
-    ("GRAPH_WORDS", 129),
+const NUMBERS: [(&str, u64); 37] = [
+    ("GRAPH_WORDS", 130),
     ("RECORD_BYTES", 16),
-    ("LONGEST_EDGE_LIST", 6051),
+    ("LONGEST_EDGE_LIST", 6179),
     ("MOST_SETS", 256),
     ("STACK_BYTES", 61_440),
     ("NO_OPENING", 1),
@@ -19,6 +19,7 @@ const NUMBERS: [(&str, u64); 35] = [
     ("REPEATED", 7),
     ("UNCLOSED", 8),
     ("TRAILING_BYTES", 9),
+    ("MASKED_TWICE", 15),
     ("UNSOUND", 10),
     ("THRESHOLD_TOO_LARGE", 11),
     ("NO_GROUP", 12),
@@ -40,6 +41,7 @@ const NUMBERS: [(&str, u64); 35] = [
     ("EXTENSIBLE", 6),
     ("GROUP", 7),
     ("ALONE", 8),
+    ("MASKED", 9),
 ];
 
 /// The one definition that is no number.

@@ -2,7 +2,7 @@
 //! largest group, and counts.
 
 use super::expect::{records, words};
-use super::isolated::count_isolated;
+use super::kinds::count_kinds;
 use super::tally::{each_case, hex_words, Tally};
 use crate::generate::{dense_graph, sets_to_count, Rng};
 use crate::interface::{self, noise};
@@ -21,7 +21,7 @@ pub fn run(seed: u64, amount: u64) -> Result<Tally, String> {
         let k = rng.pick(&[0, 0, 1, 2, 4]);
         let due: Vec<(u64, u64)> = all.into_iter().filter(|&g| meets(g, k)).collect();
         tally.add("groups", due.len() as u64);
-        count_isolated(tally, &graph, k);
+        count_kinds(tally, &graph, k);
         let graph = words(&graph);
         compare(rng, &graph, k, &due, PAGE)
             .map_err(|fault| format!("{} k {k:x}: {fault}", hex_words(&graph)))

@@ -6,8 +6,10 @@ mod child;
 mod expect;
 mod guards;
 mod header;
-mod isolated;
+mod kinds;
 mod many_groups;
+mod masked;
+mod masked_by_hand;
 mod page_lists;
 mod program;
 mod reference;
@@ -42,7 +44,7 @@ const fn trial(
 }
 
 /// All trials; the longest come first, so that two threads share the work evenly.
-pub const TRIALS: [Trial; 26] = [
+pub const TRIALS: [Trial; 27] = [
     trial("program", 6_000, program::run),
     trial("reduce", 150_000, with_graphs::reduce),
     trial("page_lists", 30_000, page_lists::run),
@@ -52,6 +54,7 @@ pub const TRIALS: [Trial; 26] = [
     trial("largest", 40_000, with_pages::largest),
     trial("reference", 3_000, reference::run),
     trial("classify", 150_000, with_graphs::classify),
+    trial("masked", 10_000, masked::run),
     trial("streams", 1, streams::run),
     trial("count", 40_000, with_counts::count),
     trial("decode", 150_000, with_lists::decode),

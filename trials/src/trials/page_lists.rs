@@ -1,7 +1,7 @@
 //! The trial of whole lists of page calls, as the third demand has them.
 
 use super::expect::{self, graph_of, records, words};
-use super::isolated::{count_isolated, KINDS};
+use super::kinds::{count_kinds, KINDS};
 use super::tally::{each_case, hex, Tally};
 use crate::generate::{
     buffer_length, edge_list, over_most, rich_graph, scrambled, unsound, Rng, UNSOUND_KINDS,
@@ -42,7 +42,7 @@ pub fn run(seed: u64, amount: u64) -> Result<Tally, String> {
 
 fn one_list(rng: &mut Rng, tally: &mut Tally, list: &[u8], k: u64) -> Result<(), String> {
     let mut listing = begin(rng, list, k)?;
-    count_isolated(tally, &graph_of(&listing.graphs[0]), k);
+    count_kinds(tally, &graph_of(&listing.graphs[0]), k);
     let short_pages = rng.chance(50);
     for _ in 0..rng.below(16) {
         let length = if short_pages {

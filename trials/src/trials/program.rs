@@ -1,15 +1,18 @@
 //! The trial of the program `groups`: its output for an input from a file and through a pipe, and no word on standard error.
 
 use super::child;
-use super::isolated::{count_isolated, ISOLATED};
+use super::kinds::{count_kinds, ISOLATED, MASKED};
 use super::tally::{each_case, hex, Tally};
-use crate::generate::{damaged, edge_list, mutated, random_bytes, Rng};
+use crate::generate::{damaged, edge_list, mutated, random_bytes, Rng, REFUSALS};
 use crate::reference::{decode, program};
 use std::fs::File;
 use std::io::{ErrorKind, Write};
 use std::path::Path;
 use std::process::{Output, Stdio};
 use std::time::Duration;
+
+/// Reports with groups of a graph that has masked vertices.
+const BESIDE_MASKED: &str = "with groups beside masked vertices";
 
 pub fn run(seed: u64, amount: u64) -> Result<Tally, String> {
     let file =
@@ -38,7 +41,8 @@ pub fn run(seed: u64, amount: u64) -> Result<Tally, String> {
     // The file is not there where no case used one.
     let _ = std::fs::remove_file(&file);
     let tally = tally?;
-    tally.each_counted(&[ISOLATED])?;
+    tally.each_counted(&[ISOLATED, BESIDE_MASKED, "refused 15"])?;
+    tally.each_counted(&MASKED)?;
     Ok(tally)
 }
 
@@ -46,15 +50,21 @@ fn count(tally: &mut Tally, input: &[u8], must: &str) {
     let first = must.lines().next().unwrap_or("");
     match first.strip_prefix("refused ") {
         Some(rest) => tally.count(&format!("refused {}", rest.split(' ').next().unwrap_or(""))),
-        None => tally.add("groups", must.lines().count() as u64 - 2),
-    }
-    if let [k, list @ ..] = input {
-        if let Ok(graph) = decode(list) {
-            count_isolated(tally, &graph, u64::from(*k));
-        }
+        None => count_report(tally, input, must.lines().count() as u64 - 2),
     }
     if input.len() > 65_536 {
         tally.count("longer than 65,536 bytes");
+    }
+}
+
+/// Counts an accepted input with so many groups.
+fn count_report(tally: &mut Tally, input: &[u8], groups: u64) {
+    let (&k, list) = input.split_first().expect("empty input is refused");
+    let graph = decode(list).expect("a list that is not read to its end is refused");
+    tally.add("groups", groups);
+    count_kinds(tally, &graph, k.into());
+    if graph.masked != 0 && groups > 0 {
+        tally.count(BESIDE_MASKED);
     }
 }
 
@@ -65,7 +75,8 @@ fn input(rng: &mut Rng) -> Vec<u8> {
         1 => Vec::new(),
         2..=7 => edge_list(rng).1,
         8 | 9 => {
-            let refusal = rng.between(1, 9);
+            let any = rng.pick(&REFUSALS);
+            let refusal = rng.pick(&[any, any, 15]);
             damaged(rng, refusal).bytes
         }
         10 => {
@@ -83,7 +94,7 @@ fn input(rng: &mut Rng) -> Vec<u8> {
     input.extend(list);
     if rng.chance(4) {
         let length = rng.pick(&[65_535, 65_536, 65_537, 65_600, 131_073, 200_000]);
-        let filling = rng.pick(&[0x00, 0x21, 0xff]);
+        let filling = rng.pick(&[0x00, 0x21, 0x23, 0xff]);
         input.resize(length, filling);
     }
     input

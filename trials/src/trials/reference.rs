@@ -1,14 +1,15 @@
 //! The trial of the reference itself: its methods against plainer ones.
 
-use super::by_hand;
 use super::expect::words;
-use super::isolated::{count_isolated, ISOLATED};
+use super::kinds::{count_kinds, ISOLATED, MASKED};
 use super::tally::{each_case, hex_words, Tally};
+use super::{by_hand, masked_by_hand};
 use crate::generate::{falling, sets_to_count, small_graph, with_tail, Rng};
 use crate::reference::*;
 
 pub fn run(seed: u64, amount: u64) -> Result<Tally, String> {
     by_hand::check()?;
+    masked_by_hand::check()?;
     let tally = each_case("reference", seed, amount, |rng, tally| {
         let graph = small_graph(rng);
         one_graph(rng, tally, &graph).map_err(|fault| at(&graph, fault))?;
@@ -18,6 +19,7 @@ pub fn run(seed: u64, amount: u64) -> Result<Tally, String> {
         one_a_round(&graph, k, falling).map_err(|fault| at(&graph, fault))
     })?;
     tally.each_counted(&[ISOLATED])?;
+    tally.each_counted(&MASKED)?;
     Ok(tally)
 }
 
@@ -31,8 +33,11 @@ fn one_graph(rng: &mut Rng, tally: &mut Tally, graph: &SignedGraph) -> Result<()
     if all != groups_by_cover(graph) {
         return Err("subsets and cover give different groups".to_string());
     }
+    if all != groups_of_unmasked(graph) {
+        return Err("the unmasked vertices alone have other groups".to_string());
+    }
     tally.add("groups", all.len() as u64);
-    count_isolated(tally, graph, 0);
+    count_kinds(tally, graph, 0);
     let k = rng.pick(&[0, 0, 1, 2, 3, 4]);
     let due: Vec<(u64, u64)> = all.into_iter().filter(|&sides| meets(sides, k)).collect();
     let reduced = reduce(graph, k).expect("the graph is sound").graph;
@@ -61,7 +66,7 @@ fn one_graph(rng: &mut Rng, tally: &mut Tally, graph: &SignedGraph) -> Result<()
 /// Holds each round to one that looks at all vertices and edges: it drops the same.
 fn rounds_everywhere(tally: &mut Tally, graph: &SignedGraph, k: u64) -> Result<(), String> {
     let everywhere: Vec<u64> = (0..graph.n).collect();
-    let mut start = graph.edges();
+    let mut start = graph.unmasked_edges();
     for narrow in rounds(graph, k) {
         let wide = round(graph.n, k, &start, &everywhere);
         if narrow.dropped != wide.dropped || narrow.looks > wide.looks {
@@ -83,11 +88,19 @@ fn one_a_round(graph: &SignedGraph, k: u64, falling: usize) -> Result<(), String
     Ok(())
 }
 
-/// Holds verdicts to the groups for k: these alone are groups, and each single vertex is alone.
+/// Holds verdicts to the groups for k: these alone are groups, each single vertex is alone, and other sets with masked
+/// vertices are masked, by the lowest of these.
 fn verdicts(graph: &SignedGraph, k: u64, due: &[(u64, u64)]) -> Result<(), String> {
     for set in 0..1u64 << graph.n.min(8) {
         let verdict = classify(graph, k, set).expect("the graph is sound");
         if (verdict == Verdict::Alone) != (set.count_ones() == 1) {
+            return Err(format!("{set:x} for {k} is {verdict:?}"));
+        }
+        let lowest = (0..graph.n).find(|v| set & graph.masked & (1 << v) != 0);
+        let masked = lowest.filter(|_| set.count_ones() > 1).map(Verdict::Masked);
+        if masked.is_some() && masked != Some(verdict.clone())
+            || masked.is_none() && matches!(verdict, Verdict::Masked(_))
+        {
             return Err(format!("{set:x} for {k} is {verdict:?}"));
         }
         let listed = due.iter().find(|(left, right)| left | right == set);
@@ -98,6 +111,28 @@ fn verdicts(graph: &SignedGraph, k: u64, due: &[(u64, u64)]) -> Result<(), Strin
         }
     }
     Ok(())
+}
+
+/// The groups for threshold 0 of the unmasked vertices, called 0, 1, 2 and so on in a graph without any others.
+fn groups_of_unmasked(graph: &SignedGraph) -> Vec<(u64, u64)> {
+    let names: Vec<u64> = (0..graph.n).filter(|&v| !graph.is_masked(v)).collect();
+    let mut part = SignedGraph::new(names.len() as u64);
+    for (v, &name) in names.iter().enumerate() {
+        for (u, &other) in names[..v].iter().enumerate() {
+            if graph.is_edge(name, other) {
+                part.add(u as u64, v as u64, graph.is_positive(name, other));
+            }
+        }
+    }
+    let named = |set: u64| {
+        vertices(set)
+            .iter()
+            .fold(0, |named, &v| named | 1 << names[v as usize])
+    };
+    groups_by_subsets(&part)
+        .into_iter()
+        .map(|(left, right)| (named(left), named(right)))
+        .collect()
 }
 
 /// In how many groups each set lies, by one test for each set and group.
@@ -113,6 +148,9 @@ fn counts_by_mask(groups: &[(u64, u64)], sets: &[u64]) -> Vec<u64> {
 
 /// The split of a set, found by trying every two sides.
 fn split_by_trying(graph: &SignedGraph, set: u64) -> Option<(u64, u64)> {
+    if set & graph.masked != 0 {
+        return None;
+    }
     let mut right = set;
     loop {
         right = right.wrapping_sub(1) & set;
@@ -139,6 +177,7 @@ fn split_by_trying(graph: &SignedGraph, set: u64) -> Option<(u64, u64)> {
 fn union_of_fitting(graph: &SignedGraph, k: u64) -> SignedGraph {
     let edges = graph.edges();
     let mut union = SignedGraph::new(graph.n);
+    union.masked = graph.masked;
     for chosen in 0..1u64 << edges.len() {
         let mut part = graph.clone();
         for (i, &(u, v, _)) in edges.iter().enumerate() {

@@ -4,7 +4,7 @@ use super::expect::{place, words};
 use super::header;
 use super::tally::{each_case, Tally};
 use crate::generate::{
-    balanced_on, bookmark, buffer_length, dense_graph, graph, moon_moser, number_of_sets,
+    balanced_on, bookmark, buffer_length, dense_graph, graph, masking, moon_moser, number_of_sets,
     rich_graph, scrambled, set_to_classify, threshold, traps, with_density, Rng,
 };
 use crate::interface::{c, noise, OwnStack, GRAPH_WORDS};
@@ -60,7 +60,7 @@ fn case(rng: &mut Rng) -> (SignedGraph, u64) {
         }
         _ => graph(rng),
     };
-    (graph, k)
+    (masking(rng, graph), k)
 }
 
 /// A perfect matching of 64 vertices.
@@ -72,12 +72,13 @@ fn matching(rng: &mut Rng) -> SignedGraph {
 
 /// A graph whose groups are few enough to go through them all.
 fn countable(rng: &mut Rng) -> SignedGraph {
-    match rng.below(4) {
+    let graph = match rng.below(4) {
         0 => matching(rng),
         1 => balanced_on(64, u64::MAX, rng.next()),
         2 => rich_graph(rng),
         _ => graph(rng),
-    }
+    };
+    masking(rng, graph)
 }
 
 /// The arrays of a case; `counted` is the graph in whose groups `sets` are counted.

@@ -12,23 +12,27 @@ const PAGE: usize = 48;
 
 pub fn run(seed: u64, amount: u64) -> Result<Tally, String> {
     each_case("traps", seed, amount, |rng, tally| {
-        for trap in with_isolated(rng, small_traps) {
+        for trap in with_others(rng, small_traps) {
             known(&trap).map_err(|fault| format!("{}: {fault}", trap.name))?;
             tally.count("small");
         }
-        for trap in with_isolated(rng, traps) {
-            one_trap(rng, &trap).map_err(|fault| format!("{}: {fault}", trap.name))?;
-            tally.count("traps");
+        for trap in with_others(rng, traps) {
+            for trap in [trap.all_masked(), trap] {
+                one_trap(rng, &trap).map_err(|fault| format!("{}: {fault}", trap.name))?;
+                tally.count("traps");
+            }
         }
         Ok(())
     })
 }
 
-/// Traps, and traps of the same kinds among isolated vertices.
-fn with_isolated(rng: &mut Rng, made: fn(&mut Rng) -> Vec<Trap>) -> Vec<Trap> {
+/// Traps, and traps of the same kinds among isolated and among masked vertices.
+fn with_others(rng: &mut Rng, made: fn(&mut Rng) -> Vec<Trap>) -> Vec<Trap> {
     let mut all = made(rng);
     let others = made(rng);
     all.extend(others.into_iter().map(|trap| trap.among_isolated(rng)));
+    let others = made(rng);
+    all.extend(others.into_iter().map(|trap| trap.among_masked(rng)));
     all
 }
 

@@ -2,7 +2,7 @@
 
 use super::arrays::{graph_array, graph_with_groups, same};
 use super::expect::{self, words};
-use super::isolated::{count_isolated, KINDS};
+use super::kinds::{count_kinds, KINDS};
 use super::many_groups::{compare_counts, listed};
 use super::tally::{each_case, hex_words, Tally};
 use crate::generate::{number_of_sets, sets_to_count, threshold_among, with_groups, Rng};
@@ -27,6 +27,12 @@ const NOTED: [(u64, usize, &str); 8] = [
 /// Counts that have to come up.
 const COUNTS: [&str; 3] = ["counts of 0", "counts of 1", "counts over 1"];
 
+/// Sets with masked vertices that have to come up; they lie in no group.
+const MASKED_SETS: [&str; 2] = [
+    "masked vertices counted",
+    "masked vertices counted, with vertices of a group",
+];
+
 /// Several calls on one graph, each with its own threshold, sets and places for the counts; and
 /// what holds between count and other calls.
 pub fn count(seed: u64, amount: u64) -> Result<Tally, String> {
@@ -40,7 +46,7 @@ pub fn count(seed: u64, amount: u64) -> Result<Tally, String> {
         if graph.is_sound() {
             tally.count("graphs held to pages and reduction");
             let k = rng.pick(&[0, 0, 1, 2, 3]);
-            count_isolated(tally, &graph, k);
+            count_kinds(tally, &graph, k);
             agree(rng, &graph, k, &all)
                 .map_err(|fault| format!("{} k {k:x}: {fault}", hex_words(&words(&graph))))?;
         }
@@ -49,6 +55,7 @@ pub fn count(seed: u64, amount: u64) -> Result<Tally, String> {
     tally.each_refused(&[10, 11, 13, 14, 101])?;
     tally.each_counted(&NOTED.map(|(_, _, note)| note))?;
     tally.each_counted(&COUNTS)?;
+    tally.each_counted(&MASKED_SETS)?;
     tally.each_counted(&KINDS)?;
     tally.cases *= CALLS;
     Ok(tally)
@@ -71,7 +78,8 @@ fn one_call(
     let must = expect::count(&array, k, &due, &sets, &counts);
     note(tally, &must, number);
     if must.number == 0 {
-        count_isolated(tally, graph, k);
+        count_kinds(tally, graph, k);
+        note_masked_sets(tally, graph, &due, &sets);
     }
     let left = interface::count(rng, &array, k, &sets, &counts);
     let call = || {
@@ -106,6 +114,17 @@ fn note(tally: &mut Tally, must: &Outcome, sets: usize) {
         for &count in &must.counts[..sets] {
             tally.count(COUNTS[count.min(2) as usize]);
         }
+    }
+}
+
+/// Notes sets with masked vertices, among them those whose other vertices lie in a group.
+fn note_masked_sets(tally: &mut Tally, graph: &SignedGraph, due: &[(u64, u64)], sets: &[u64]) {
+    for set in sets.iter().filter(|&set| set & graph.masked != 0) {
+        let others = set & !graph.masked;
+        let lie = due
+            .iter()
+            .any(|(left, right)| others & !(left | right) == 0);
+        tally.count(MASKED_SETS[usize::from(others != 0 && lie)]);
     }
 }
 
@@ -169,7 +188,7 @@ fn agree(rng: &mut Rng, graph: &SignedGraph, k: u64, all: &[(u64, u64)]) -> Resu
 }
 
 /// The set of a record.
-fn set_of(record: &[u8]) -> u64 {
+pub fn set_of(record: &[u8]) -> u64 {
     record
         .chunks(8)
         .map(|side| u64::from_le_bytes(side.try_into().expect("a side has eight bytes")))

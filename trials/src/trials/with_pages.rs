@@ -2,7 +2,7 @@
 
 use super::arrays::{any_graph, graph_array, graph_with_groups, room, same};
 use super::expect::{self, graph_of};
-use super::isolated::{count_isolated, KINDS};
+use super::kinds::{count_kinds, KINDS};
 use super::tally::{each_case, hex, hex_words, Tally};
 use crate::generate::{bookmark, buffer_length, threshold, threshold_among, Rng};
 use crate::interface::{self, noise, Place};
@@ -10,6 +10,9 @@ use crate::reference::{groups, meets, SignedGraph};
 
 /// Calls that each graph of list_page gets.
 const CALLS: u64 = 4;
+
+/// Bookmarks that have to come up.
+const AFTER_MASKED: &str = "after sets with masked vertices";
 
 /// Several pages of one graph, each with its own threshold, bookmark and buffer.
 pub fn list_page(seed: u64, amount: u64) -> Result<Tally, String> {
@@ -22,6 +25,7 @@ pub fn list_page(seed: u64, amount: u64) -> Result<Tally, String> {
     })?;
     tally.each_refused(&[10, 11, 101, 102, 103])?;
     tally.each_counted(&KINDS)?;
+    tally.each_counted(&[AFTER_MASKED])?;
     tally.cases *= CALLS;
     Ok(tally)
 }
@@ -44,7 +48,10 @@ fn one_page(
     if must.number == 0 {
         tally.add("records", must.answer[0]);
         tally.count(["finished", "more"][must.answer[1] as usize]);
-        count_isolated(tally, graph, k);
+        count_kinds(tally, graph, k);
+        if from.0 == 1 && from.1 & graph.masked != 0 {
+            tally.count(AFTER_MASKED);
+        }
     }
     let left = interface::list_page(rng, &array, k, from, &out, &answer);
     let call = || {
@@ -84,7 +91,7 @@ pub fn largest(seed: u64, amount: u64) -> Result<Tally, String> {
         let must = expect::largest(&graph, k, &answer);
         tally.count_number(must.number);
         if matches!(must.number, 0 | 12) {
-            count_isolated(tally, &graph_of(&graph), k);
+            count_kinds(tally, &graph_of(&graph), k);
         }
         if must.number == 0 {
             let size = (must.answer[0] | must.answer[1]).count_ones();

@@ -1,5 +1,7 @@
 -- `bounds::size_table` meets its contract. The table has bounds from v up. Assumes nothing.
-use mathlib.Core.Path.{refl}
+use Prim.Native.Nat.{ℕ}
+use mathlib.Core.Path.{refl, ap}
+use lib.Bits.{bitAnd}
 use lib.ListN.{replicate}
 use native.Mathlib.Omega.{arith}
 use borrow.Author.Needs.{needs}
@@ -8,31 +10,31 @@ use Rattle.bounds.proofs.size_table.Statement.{statement}
 use Rattle.bounds.proofs.size_table.Tie as tie
 
 abbrev Inv-loop : tie.InvT-loop
-Inv-loop n positive negative table₀ above₀ most₀ v₀ table above most v = Tabling n positive negative table above most v
+Inv-loop n all positive negative table₀ above₀ most₀ v₀ table above most v = Tabling n all positive negative table above most v
 
 abbrev μ-loop : tie.MeasureT-loop
-μ-loop n positive negative table₀ above₀ most₀ v₀ table above most v = v
+μ-loop n all positive negative table₀ above₀ most₀ v₀ table above most v = v
 
 returns : tie.Need-returns Inv-loop μ-loop
 returns c =
-    let a = c .before .args in tabled-none (a .n) (a .positive .now) (a .negative .now) (replicate 64 0) (c .if1 .taken)
+    let a = c .before .args in tabled-none (a .n) (a .all) (a .positive .now) (a .negative .now) (replicate 64 0) (c .if1 .taken)
 
 loop-holds : tie.Need-loop-holds Inv-loop μ-loop
 loop-holds c =
-    let a = c .before .args in tabling-begin (a .n) (a .positive .now) (a .negative .now) _ refl
+    let a = c .before .args in tabling-begin (a .n) (a .all) (a .positive .now) (a .negative .now) _ refl
 
 loop-again : tie.Need-loop-again Inv-loop μ-loop
 loop-again c =
     let bound = c .before in
     let at = bound .before .before .before in
     let a = at .before .before .args in
-    tabling-step (a .n) (a .positive .now) (a .negative .now) (at .loop .inv) (at .before .if1 .left) (search needs)
-    (bound .bound-from .result) (bound .bound-from .ensures .0) (bound .bound-from .ensures .1) (c .single .result) (c .single .ensures)
+    tabling-step (a .n) (a .all) (a .positive .now) (a .negative .now) (at .loop .inv) (at .before .if1 .left) (search needs)
+    (bound .bound-from .result) (bound .bound-from .ensures .0) (bound .bound-from .ensures .1) _ (ap (λ (x : ℕ). bitAnd x (a .all)) (c .single .ensures))
 
 returns-2 : tie.Need-returns-2 Inv-loop μ-loop
 returns-2 c =
     let a = c .before .before .before .args in
-    tabling-end (a .n) (a .positive .now) (a .negative .now) (c .before .loop .inv) (search needs)
+    tabling-end (a .n) (a .all) (a .positive .now) (a .negative .now) (c .before .loop .inv) (search needs)
 
 pub size-table-spec : {M : Type 1} → statement M
 size-table-spec =

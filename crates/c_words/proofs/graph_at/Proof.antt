@@ -6,7 +6,7 @@ use mathlib.Core.List.{List, _++_, append-nil}
 use lib.ListN.{length, getD, take, drop, replicate, drop-of-length-le, length-drop}
 use lib.Seq.{length-take-le}
 use borrow.Author.Needs.{needs}
-use Rattle.c_words.specs.Graphs.{firstPositive, firstNegative, graphWords, graphAt}
+use Rattle.c_words.specs.Graphs.{firstPositive, firstNegative, maskedAt, graphWords, graphAt}
 use Rattle.c_words.proofs.graph_at.Statement.{statement}
 use Rattle.c_words.proofs.graph_at.Tie as tie
 
@@ -21,11 +21,13 @@ table words last at small long is =
 returns : tie.Need-returns
 unfolding graphAt
 returns c =
-    let b = c .before .before .before .before .before .before .before .before .before .before in
+    let p2 = c .before .before .before in
+    let p1 = p2 .before .before .before .before in
+    let b = p1 .before .before .before .before in
     let words = b .args .words .now in
-    ap₂ (λ (p q : List ℕ). record { n = getD words 0 0; positive = p; negative = q })
-    (table words _ firstPositive (omega arith) (b .pre) (c .before .before .before .before .before .before .put-words .ensures))
-    (table words _ firstNegative (omega arith) (b .pre) (c .before .before .put-words2 .ensures))
+    ap₂ (λ (p q : List ℕ). record { n = getD words 0 0; positive = p; negative = q; masked = getD words maskedAt 0 })
+    (table words _ firstPositive (omega arith) (b .pre) (p1 .put-words .ensures))
+    (table words _ firstNegative (omega arith) (b .pre) (p2 .put-words2 .ensures))
 
 pub graph-at-spec : {M : Type 1} → statement M
 graph-at-spec =
@@ -41,5 +43,6 @@ graph-at-spec =
     (λ c. search needs)
     (λ c. search needs)
     (λ c κs. search needs)
+    (λ c. search needs)
     (λ c. search needs)
     returns)

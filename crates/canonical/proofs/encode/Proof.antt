@@ -6,6 +6,7 @@ use mathlib.Core.Bool.{true, false}
 use lib.ListN.{length}
 use borrow.Author.Needs.{needs}
 use borrow.Author.Tests.{lt-ltb, le-ltb, not-true, not-false}
+use Rattle.vertex_set.proofs.SizeBounds.{size-64}
 use Rattle.signed_graph.specs.Soundness.{sound}
 use Rattle.signed_graph.proofs.Soundness.{to-sound}
 use Rattle.signed_graph.proofs.EdgeCounts.{edges-most}
@@ -23,37 +24,44 @@ returns c =
     let s : sound (c .before .before .before .args .g) ≡ false = sym (i .ensures) ∙ not-true (i .result) (c .if1 .taken) in
     (simp s, (simp s, (simp s, simp s)))
 
--- the sum fits, and so does the product in it
-need-fits : tie.Need-add-need
-need-fits c = omega (arith, c .count-edges .ensures, edges-most (c .before .before .before .before .args .g))
+-- the sum fits, and so do its parts
+need-fits : tie.Need-add-need-2
+need-fits c =
+    let g = c .before .before .before .before .before .args .g in
+    omega (arith, c .count-edges .ensures, edges-most g, c .before .size .ensures, size-64 (g .masked))
 
 returns-2 : tie.Need-returns-2
 unfolding encoded buffered encodingNumber encodingLength
 returns-2 c =
-    let a = c .before .before .before .before .before .args in
-    let i = c .before .before .before .is-sound in
-    let s : sound (a .g) ≡ true = sym (i .ensures) ∙ not-false (i .result) (c .before .before .if1 .left) in
+    let k = c .before in
+    let a = k .before .before .before .before .before .args in
+    let i = k .before .before .before .is-sound in
+    let s : sound (a .g) ≡ true = sym (i .ensures) ∙ not-false (i .result) (k .before .before .if1 .left) in
     let h : length (a .out .now) < length (canonical (a .g)) =
-    omega (arith, c .if2 .taken, c .before .count-edges .ensures, length-canonical (a .g) (to-sound (a .g) s)) in
+    omega (arith, c .if2 .taken, k .count-edges .ensures, k .before .size .ensures, length-canonical (a .g) (to-sound (a .g) s)) in
     (simp (s, lt-ltb _ _ h), (simp (s, lt-ltb _ _ h), (simp (s, lt-ltb _ _ h), simp (s, lt-ltb _ _ h))))
 
 put-canonical-requires : tie.Need-put-canonical-requires
 put-canonical-requires c κs =
-    let a = c .before .before .before .before .before .before .args in
-    let i = c .before .before .before .before .is-sound in
-    let s : sound (a .g) ≡ true = sym (i .ensures) ∙ not-false (i .result) (c .before .before .before .if1 .left) in (
+    let k = c .before .before in
+    let a = k .before .before .before .before .before .args in
+    let i = k .before .before .before .is-sound in
+    let s : sound (a .g) ≡ true = sym (i .ensures) ∙ not-false (i .result) (k .before .before .if1 .left) in (
       s,
-      omega (arith, c .before .if2 .left, c .before .before .count-edges .ensures, length-canonical (a .g) (to-sound (a .g) s)),
+      omega (arith, c .before .if2 .left, k .count-edges .ensures, k .before .size .ensures, length-canonical (a .g) (to-sound (a .g) s)),
     )
 
 returns-3 : tie.Need-returns-3
 unfolding encoded buffered encodingNumber encodingLength
 returns-3 c =
-    let a = c .before .before .before .before .before .before .before .before .before .args in
-    let i = c .before .before .before .before .before .before .before .is-sound in
-    let n = c .before .before .before .before .before .count-edges in
-    let s : sound (a .g) ≡ true = sym (i .ensures) ∙ not-false (i .result) (c .before .before .before .before .before .before .if1 .left) in
-    let need : 3 + 3 * n .result ≡ length (canonical (a .g)) = omega (arith, n .ensures, length-canonical (a .g) (to-sound (a .g) s)) in
+    let k = c .before .before .before .before .before in
+    let a = k .before .before .before .before .before .args in
+    let i = k .before .before .before .is-sound in
+    let n = k .count-edges in
+    let m = k .before .size in
+    let s : sound (a .g) ≡ true = sym (i .ensures) ∙ not-false (i .result) (k .before .before .if1 .left) in
+    let need : 3 + 3 * n .result + 2 * m .result ≡ length (canonical (a .g)) =
+    omega (arith, n .ensures, m .ensures, length-canonical (a .g) (to-sound (a .g) s)) in
     let h : length (canonical (a .g)) ≤ length (a .out .now) = omega (arith, c .before .before .before .before .if2 .left) in (
       ap Written need ∙ simp (s, le-ltb _ _ h),
       (simp (s, le-ltb _ _ h), (need ∙ simp (s, le-ltb _ _ h), c .before .before .put-canonical .ensures ∙ simp (s, le-ltb _ _ h))),
@@ -66,6 +74,9 @@ encode-spec =
     (λ c κs. search needs)
     returns
     (λ c κs. search needs)
+    (λ c κs. search needs)
+    (λ c. omega (arith, need-fits c))
+    (λ c. omega (arith, need-fits c))
     (λ c. omega (arith, need-fits c))
     need-fits
     returns-2

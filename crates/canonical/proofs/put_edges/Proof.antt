@@ -7,7 +7,7 @@ use borrow.Author.Needs.{needs}
 use Rattle.vertex_set.specs.Sets.{size}
 use Rattle.vertex_set.proofs.Buffers.{Laid, laid-start, laid-as, laid-room, laid-long, piece-room, laid-piece, laid-length, laid-end}
 use Rattle.vertex_set.proofs.LowestVertex.{lowest-lt, rest-lt, size-rest}
-use Rattle.edge_list.specs.Edges.{edgeBytes}
+use Rattle.edge_list.specs.Entries.{entryBytes}
 use Rattle.canonical.specs.EdgeRows.{edgesTo}
 use Rattle.canonical.proofs.Rows.{bytes-none, bytes-lowest}
 use Rattle.canonical.proofs.put_edges.Statement.{statement}
@@ -15,7 +15,7 @@ use Rattle.canonical.proofs.put_edges.Tie as tie
 
 abbrev Inv-loop : tie.InvT-loop
 Inv-loop positive s p out₀ left₀ at₀ out left at =
-    (left < 2 ^ 64) × Laid (edgeBytes (edgesTo positive s p)) out₀ out at (edgeBytes (edgesTo positive left p))
+    (left < 2 ^ 64) × Laid (entryBytes (edgesTo positive s p)) out₀ out at (entryBytes (edgesTo positive left p))
 
 abbrev μ-loop : tie.MeasureT-loop
 μ-loop positive s p out₀ left₀ at₀ out left at = size left
@@ -24,7 +24,7 @@ loop-holds : tie.Need-loop-holds Inv-loop μ-loop
 loop-holds c =
     let b = c .before in
     let a = b .args in
-    (b .fits .s .fits, laid-start (edgeBytes (edgesTo (a .positive) (a .s) (a .p))) (a .out .now) (b .pre .1))
+    (b .fits .s .fits, laid-start (entryBytes (edgesTo (a .positive) (a .s) (a .p))) (a .out .now) (b .pre .1))
 
 put-command-start : tie.Need-sub-put-command Inv-loop μ-loop
 put-command-start c = let l = c .before .before .before .loop in omega (arith, laid-room (l .inv .1), laid-long (l .inv .1))

@@ -6,7 +6,7 @@ use borrow.Author.Needs.{needs}
 use lib.ListN.{getD, length-append}
 use Rattle.vertex_set.proofs.Buffers.{Laid, laid-start, laid-as, laid-room, laid-long, piece-room, laid-piece, laid-length, laid-end}
 use Rattle.signed_graph.proofs.Soundness.{to-sound}
-use Rattle.edge_list.specs.Edges.{edgeBytes}
+use Rattle.edge_list.specs.Entries.{entryBytes}
 use Rattle.canonical.specs.Canonical.{orderedEdges}
 use Rattle.canonical.specs.EdgeRows.{edgesTo}
 use Rattle.canonical.proofs.Rows.{edgesFrom, from-start, bytes-row, bytes-end}
@@ -14,7 +14,7 @@ use Rattle.canonical.proofs.put_rows.Statement.{statement}
 use Rattle.canonical.proofs.put_rows.Tie as tie
 
 abbrev Inv-loop : tie.InvT-loop
-Inv-loop out₀ g n at₀ p₀ out at p = (g .n ≤ 64) × Laid (edgeBytes (orderedEdges g)) out₀ out at (edgeBytes (edgesFrom g p))
+Inv-loop out₀ g n at₀ p₀ out at p = (g .n ≤ 64) × Laid (entryBytes (orderedEdges g)) out₀ out at (entryBytes (edgesFrom g p))
 
 abbrev μ-loop : tie.MeasureT-loop
 μ-loop out₀ g n at₀ p₀ out at p = n - p
@@ -23,7 +23,7 @@ loop-holds : tie.Need-loop-holds Inv-loop μ-loop
 loop-holds c =
     let b = c .before in
     let g = b .args .t1 in
-    (to-sound g (b .pre .0) .small, laid-as (ap edgeBytes (from-start g)) (laid-start (edgeBytes (orderedEdges g)) (b .args .out .now) (b .pre .1)))
+    (to-sound g (b .pre .0) .small, laid-as (ap entryBytes (from-start g)) (laid-start (entryBytes (orderedEdges g)) (b .args .out .now) (b .pre .1)))
 
 put-edges-start : tie.Need-sub-put-edges Inv-loop μ-loop
 put-edges-start c = let l = c .before .before .before .before .loop in omega (arith, laid-room (l .inv .1), laid-long (l .inv .1))
@@ -36,7 +36,7 @@ put-edges-requires c κs =
     let g = b .args .t1 in
     let x = c .before .members-above in
     let row = bytes-row g (to-sound g (b .pre .0)) (l .p) (i .loop-test .taken) (x .result) (x .ensures) in
-    (omega arith, piece-room (edgeBytes (edgesTo (getD (g .positive) (l .p) 0) (x .result) (l .p))) _ (laid-as row (l .inv .1)))
+    (omega arith, piece-room (entryBytes (edgesTo (getD (g .positive) (l .p) 0) (x .result) (l .p))) _ (laid-as row (l .inv .1)))
 
 add-at : tie.Need-add-at Inv-loop μ-loop
 add-at c =
@@ -50,7 +50,7 @@ add-at c =
       arith,
       c .before .before .put-edges .ensures .0,
       laid-room (laid-as row (l .inv .1)),
-      length-append (edgeBytes (edgesTo (getD (g .positive) (l .p) 0) (x .result) (l .p))) (edgeBytes (edgesFrom g (l .p + 1))),
+      length-append (entryBytes (edgesTo (getD (g .positive) (l .p) 0) (x .result) (l .p))) (entryBytes (edgesFrom g (l .p + 1))),
     )
 
 loop-again : tie.Need-loop-again Inv-loop μ-loop
@@ -63,7 +63,7 @@ loop-again c =
     let r = c .before .before .put-edges in
     let row = bytes-row g (to-sound g (b .pre .0)) (l .p) (i .loop-test .taken) (x .result) (x .ensures) in (
       l .inv .0,
-      laid-piece (edgeBytes (edgesTo (getD (g .positive) (l .p) 0) (x .result) (l .p))) _ _ (r .result)
+      laid-piece (entryBytes (edgesTo (getD (g .positive) (l .p) 0) (x .result) (l .p))) _ _ (r .result)
           (laid-as row (l .inv .1)) (r .ensures .0) (r .ensures .1),
     )
 

@@ -11,7 +11,7 @@ returns c =
     let r = made .before .before .before .before in
     let all = r .before .before .before .before in
     let b = all .before in
-    largest-none (b .args .t1) _ (b .pre) (r .root .result) (made .size-table .result) _ (r .root .ensures (b .args .t1) (b .pre) (all .vertices .ensures))
+    largest-none (b .args .t1) _ (b .pre) (r .root .result) _ (all .vertices .ensures) (made .size-table .result) _ (r .root .ensures (b .args .t1) (b .pre) (all .vertices .ensures))
     (made .size-table .ensures) (l .largest-below .ensures) (c .if1 .taken)
 
 returns-2 : tie.Need-returns-2
@@ -21,7 +21,7 @@ returns-2 c =
     let r = made .before .before .before .before in
     let all = r .before .before .before .before in
     let b = all .before in
-    largest-some (b .args .t1) _ (b .pre) (r .root .result) (made .size-table .result) _ (r .root .ensures (b .args .t1) (b .pre) (all .vertices .ensures))
+    largest-some (b .args .t1) _ (b .pre) (r .root .result) _ (all .vertices .ensures) (made .size-table .result) _ (r .root .ensures (b .args .t1) (b .pre) (all .vertices .ensures))
     (made .size-table .ensures) (l .largest-below .ensures) (c .if1 .left)
 
 pub largest-sound-spec : {M : Type 1} → statement M
