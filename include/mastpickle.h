@@ -41,11 +41,11 @@
  *     mastpickle_record_at       256
  *     mastpickle_count        61,440
  *
- * Each is at least a quarter above what the machine code can take, and `make trials` measures
- * calls against it. The frames of the caller and of signal handlers are the caller's to add, and
- * so is what memcpy and memset take: nothing was measured for those of the GNU C library, but a
- * dynamic linker that binds them when they are first called took 1,552 bytes then on one machine,
- * and may take more on another.
+ * Each is above what the frames of the machine code add up to, with 65 levels of a search, and
+ * `make trials` measures calls against it. The frames of the caller and of signal handlers are the
+ * caller's to add, and so is what memcpy and memset take: nothing was measured for those of the GNU
+ * C library, but a dynamic linker that binds them when they are first called took 1,552 bytes then
+ * on one machine, and may take more on another.
  *
  * How long a call takes is not promised; bench/RESULTS.md has what was measured. Only small pages
  * bound the time of a call, and they do not bound it for sure: mastpickle_list_page ends when its
