@@ -63,17 +63,19 @@ extern "C" {
 #endif
 
 /* The version of the library and of the program `groups`. */
-#define MASTPICKLE_VERSION "4.0.0"
+#define MASTPICKLE_VERSION "4.1.0"
 
-/* The words of a graph, the bytes of a record, the longest edge list that mastpickle_encode writes,
-   the most sets that mastpickle_count takes, and a stack that is enough for every call. */
+/* The words of a graph, the bytes of a record, the longest edge list that mastpickle_encode writes
+   (an amendment list, which mastpickle_decode reads too, may have any length), the most sets that
+   mastpickle_count takes, and a stack that is enough for every call. */
 #define MASTPICKLE_GRAPH_WORDS 130
 #define MASTPICKLE_RECORD_BYTES 16
 #define MASTPICKLE_LONGEST_EDGE_LIST 6179
 #define MASTPICKLE_MOST_SETS 256
 #define MASTPICKLE_STACK_BYTES 61440
 
-/* Refusals of an edge list, by mastpickle_decode. */
+/* Refusals of a list, by mastpickle_decode; of an amendment list neither MASTPICKLE_REPEATED nor
+   MASTPICKLE_MASKED_TWICE. */
 #define MASTPICKLE_NO_OPENING 1
 #define MASTPICKLE_TOO_MANY_VERTICES 2
 #define MASTPICKLE_UNKNOWN_COMMAND 3
@@ -143,7 +145,11 @@ uint64_t mastpickle_check_sound(const uint64_t *graph, size_t graph_words);
 uint64_t mastpickle_check_call(const uint64_t *graph, size_t graph_words, uint64_t k);
 
 /*
- * Reads an edge list, which gives edges and masks vertices. Writes its graph, and into answer[0] 0.
+ * Reads a list, which gives edges and masks vertices: an edge list, whose first byte is 0x10, or an
+ * amendment list, whose first byte is 0x11. In an amendment list edges and masks may be given again
+ * and edges taken back, and of what it says of two vertices the last counts; it may have any
+ * length, and is never refused with 7 or 15. docs/FORMAT.md has the bytes.
+ * Writes the graph of the list, and into answer[0] 0.
  * Returns 0; or 1 to 9 or 15 where the list is refused, and then writes the graph of no vertices,
  * which masks nothing, and into answer[0] the place of the fault; or 101, 102 (one word).
  */

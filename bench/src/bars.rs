@@ -1,5 +1,6 @@
 //! The bars that the library is held to.
 
+use crate::decoding::Decodings;
 use crate::masked::Page;
 use crate::measure::Case;
 use crate::reduction::{Kind, Reductions};
@@ -54,7 +55,8 @@ pub fn table(results: &Results) -> Table {
         .chain(largest_and_pages(results))
         .chain(counting(results))
         .chain(masked(&results.masked))
-        .chain(reduction(&results.reductions));
+        .chain(reduction(&results.reductions))
+        .chain(decoding(&results.decodings));
     table_of(bars)
 }
 
@@ -66,6 +68,11 @@ pub fn reduction_table(reductions: &Reductions) -> Table {
 /// The bar of masked vertices as a table.
 pub fn masked_table(pages: &[Page]) -> Table {
     table_of(masked(pages))
+}
+
+/// The bar of decoding as a table.
+pub fn decoding_table(decodings: &Decodings) -> Table {
+    table_of(decoding(decodings))
 }
 
 fn table_of(bars: impl IntoIterator<Item = Bar>) -> Table {
@@ -162,6 +169,16 @@ fn reduction(reductions: &Reductions) -> Vec<Bar> {
         at_most("reduction / fixpoint, the highest graph", 1.1, all),
         within("reduction, the slowest found", 0.001, slowest),
     ]
+}
+
+/// The bar of decoding.
+fn decoding(decodings: &Decodings) -> Vec<Bar> {
+    let highest = most(decodings.cases.iter().map(|case| case.ratio()));
+    vec![at_most(
+        "amendment list / edge list, a command, the highest",
+        1.3,
+        Some(highest),
+    )]
 }
 
 /// A bar for a ratio that is not to be lower.

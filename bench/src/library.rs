@@ -111,6 +111,21 @@ impl Graph {
     }
 }
 
+/// Writes the graph of a list, of no vertices where it is refused; gives the number of the refusal, else 0.
+pub fn decode(list: &[u8], graph: &mut Words) -> u64 {
+    let mut answer = [0];
+    unsafe {
+        c::mastpickle_decode(
+            list.as_ptr(),
+            list.len(),
+            graph.as_mut_ptr(),
+            graph.len(),
+            answer.as_mut_ptr(),
+            answer.len(),
+        )
+    }
+}
+
 /// The groups of records.
 pub fn groups(records: &[u8]) -> Vec<(u64, u64)> {
     let word = |bytes: &[u8]| u64::from_le_bytes(bytes.try_into().expect("a word has 8 bytes"));

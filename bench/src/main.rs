@@ -3,6 +3,7 @@
 mod bars;
 mod clock;
 mod counting;
+mod decoding;
 mod families;
 mod library;
 mod masked;
@@ -60,6 +61,12 @@ fn main() -> ExitCode {
                 print!("{}", report::masked_alone(&pages));
             }
         }
+        Some(Part::Decoding) => {
+            let decodings = decoding::measure(&mut bench);
+            if purpose == Purpose::Timing {
+                print!("{}", report::decoding_alone(&decodings));
+            }
+        }
         None => {
             let results = run(&mut bench, options.trap_limit);
             if purpose == Purpose::Timing {
@@ -76,7 +83,8 @@ fn main() -> ExitCode {
     }
 }
 
-/// Measures all families, masked vertices, reductions and traps; where nothing is timed, families with masked vertices too.
+/// Measures all families, masked vertices, reductions, the decoding of lists and traps; where nothing is timed, families with
+/// masked vertices too.
 fn run(bench: &mut Bench, trap_limit: f64) -> Results {
     let thresholds = match bench.purpose {
         Purpose::Timing => &THRESHOLDS[..],
@@ -103,6 +111,7 @@ fn run(bench: &mut Bench, trap_limit: f64) -> Results {
         families: measured,
         masked: masked::measure(bench),
         reductions: reduction::measure(bench),
+        decodings: decoding::measure(bench),
         traps: traps::measure(trap_limit, &mut bench.verdict),
     }
 }

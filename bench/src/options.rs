@@ -17,6 +17,7 @@ pub struct Options {
 pub enum Part {
     Reduction,
     Masked,
+    Decoding,
 }
 
 impl FromStr for Part {
@@ -26,13 +27,14 @@ impl FromStr for Part {
         match word {
             "reduction" => Ok(Part::Reduction),
             "masked" => Ok(Part::Masked),
+            "decoding" => Ok(Part::Decoding),
             _ => Err(()),
         }
     }
 }
 
 const USAGE: &str =
-    "usage: mastpickle-bench [--check] [--only reduction|masked] [--trap-limit SECONDS]";
+    "usage: mastpickle-bench [--check] [--only reduction|masked|decoding] [--trap-limit SECONDS]";
 
 pub fn read(mut words: impl Iterator<Item = String>) -> Result<Options, String> {
     let mut options = Options {

@@ -1,6 +1,7 @@
 //! The report of a run, in Markdown.
 
 use crate::bars;
+use crate::decoding::{Decodings, Growth};
 use crate::masked::Page;
 use crate::measure::{Case, THRESHOLDS};
 use crate::reduction::Reductions;
@@ -8,12 +9,13 @@ use crate::results::{
     by_pages, counting_most, counting_one, nanoseconds_a_test, of_cliquer, of_mbcenum, of_mbcsear,
     over_igraph, slowest_page, Results,
 };
-use crate::table::{microseconds, milliseconds, or_missing, ratio, Table};
+use crate::table::{microseconds, milliseconds, nanoseconds, or_missing, ratio, Table};
 use std::process::Command;
 
 /// The whole report.
 pub fn text(results: &Results) -> String {
     let counting_words = counting_words(results);
+    let decoding_words = decoding_words(&results.decodings);
     let sections = [
         ("Bars", BARS, bars::table(results)),
         ("Listing, k = 0", LISTING, listing(results)),
@@ -23,6 +25,7 @@ pub fn text(results: &Results) -> String {
         ("Other thresholds", OTHERS, thresholds(results)),
         ("Masked vertices", MASKED, masked(&results.masked)),
         ("Reduction", REDUCTION, reduction(&results.reductions)),
+        ("Decoding", &decoding_words, decoding(&results.decodings)),
         ("Traps", TRAPS, traps(results)),
     ];
     let mut text = format!("# Benchmark\n\n{INTRODUCTION}\n\n{}\n", machine());
@@ -42,6 +45,13 @@ pub fn reduction_alone(reductions: &Reductions) -> String {
 pub fn masked_alone(pages: &[Page]) -> String {
     let bars = section("Bars", "", &bars::masked_table(pages));
     bars + &section("Masked vertices", MASKED, &masked(pages))
+}
+
+/// The report of decoding alone.
+pub fn decoding_alone(decodings: &Decodings) -> String {
+    let bars = section("Bars", "", &bars::decoding_table(decodings));
+    let words = decoding_words(decodings);
+    bars + &section("Decoding", &words, &decoding(decodings))
 }
 
 fn section(title: &str, words: &str, table: &Table) -> String {
@@ -90,6 +100,13 @@ balanced by random sides. Path: through all vertices, or from a group through al
 for k = 2 each edge needs two vertices beside it and has no more, so it falls round by round, from its ends or from the end
 away from the group. Planted: a group with one sign in twenty wrong, over edges of 20 %. Slowest found: for each k up to 32 a
 search changed a graph's edges at random, thousands of times, for more looks and rounds; this is the slowest of these graphs.";
+
+const DECODING: &str = "\
+Nanoseconds a command, all lists measured in turn. Graphs have 64 vertices, or 8 where it says so; signs and the order of the
+commands are random. A processor can learn one list that is decoded over and over, and then foresee its commands; so 100
+different ones were measured too. First the same commands in edge lists and in amendment lists. Then one amendment list, each
+of its commands about two vertices chosen at random, which get an edge of a random sign or lose theirs; beside it as many
+commands in edge lists of all edges. The graphs were compared with what the last command about each two vertices says.";
 
 const TRAPS: &str = "\
 Each call runs in a process of its own, which is ended at the limit.";
@@ -347,6 +364,38 @@ fn reduction(reductions: &Reductions) -> Table {
             microseconds(case.unchecked),
             ratio(case.ratio()),
             ratio(lowest),
+        ]);
+    }
+    table
+}
+
+/// The words about decoding, with what ten times the commands do to the time of one.
+fn decoding_words(decodings: &Decodings) -> String {
+    let line = |growth: &Growth| {
+        let (kind, times) = (growth.kind, ratio(growth.amendment_lists));
+        let edge_lists = ratio(growth.edge_lists);
+        format!("{kind} {times}, edge lists beside them {edge_lists}")
+    };
+    let lines: Vec<String> = decodings.growths.iter().map(line).collect();
+    let lines = lines.join(";\n");
+    format!("{DECODING}\nA command where there are ten times as many, as a ratio to one where there are not:\n{lines}.")
+}
+
+fn decoding(decodings: &Decodings) -> Table {
+    let mut table = Table::new(&[
+        "Lists",
+        "Commands",
+        "Edge lists",
+        "Amendment lists",
+        "amendment / edge",
+    ]);
+    for case in &decodings.cases {
+        table.row([
+            case.name.clone(),
+            case.commands.to_string(),
+            nanoseconds(case.edge_lists),
+            nanoseconds(case.amendment_lists),
+            ratio(case.ratio()),
         ]);
     }
     table

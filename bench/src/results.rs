@@ -1,6 +1,7 @@
 //! What a whole run measured, and its means.
 
 use crate::counting::MOST_SETS;
+use crate::decoding::Decodings;
 use crate::masked::Page;
 use crate::measure::Case;
 use crate::reduction::Reductions;
@@ -17,6 +18,7 @@ pub struct Results {
     pub families: Vec<Measured>,
     pub masked: Vec<Page>,
     pub reductions: Reductions,
+    pub decodings: Decodings,
     pub traps: Vec<Timed>,
 }
 

@@ -63,6 +63,11 @@ pub fn microseconds(seconds: f64) -> String {
     milliseconds(seconds * 1e3)
 }
 
+/// Seconds as nanoseconds, likewise.
+pub fn nanoseconds(seconds: f64) -> String {
+    milliseconds(seconds * 1e6)
+}
+
 pub fn ratio(value: f64) -> String {
     if value >= 100.0 {
         format!("{value:.0}")

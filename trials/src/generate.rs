@@ -1,5 +1,7 @@
 //! Seeded generators of everything that the trials hand over.
 
+mod amendments;
+mod damage;
 mod edge_lists;
 mod falling;
 mod graphs;
@@ -10,7 +12,14 @@ mod sets;
 mod traps;
 mod unsound;
 
-pub use edge_lists::{damaged, edge_list, mutated, random_bytes, scrambled, REFUSALS};
+pub use amendments::{
+    amended, amended_to_length, amendment_list, fill, random_amendment_list, random_amendments,
+    EDGE_COMMANDS,
+};
+pub use damage::{
+    damaged, damaged_amendments, damaged_behind, Damage, AMENDMENT_REFUSALS, REFUSALS,
+};
+pub use edge_lists::{closed, edge_list, mutated, random_bytes, scrambled, OPENINGS};
 pub use falling::{falling, with_tail};
 pub use graphs::{
     balanced_on, dense_graph, graph, rich_graph, small_graph, with_density, with_groups,

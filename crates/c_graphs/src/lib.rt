@@ -1,4 +1,4 @@
-// The calls about graphs on arrays: a new graph, the checks, edge lists, the reduction.
+// The calls about graphs on arrays: a new graph, the checks, lists, the reduction.
 use signed_graph::SignedGraph;
 ghost use mathlib.Core.Path.{_≡_};
 ghost use Prim.Native.Nat.{min};
@@ -46,7 +46,7 @@ pub fn check_call(graph: &[u64], k: u64) -> u64
     signed_graph::check_call(c_words::graph_at(graph), k).number()
 }
 
-// Writes the graph of an edge list, and the place of its fault.
+// Writes the graph of an edge list or an amendment list, and the place of its fault.
 pub fn decode(bytes: &[u8], graph: &mut [u64], answer: &mut [u64]) -> u64
     ensures number { λ r. ⌜ r ≡ decodeReturns (now (bytes .entry)) (now (graph .entry)) (now (answer .entry)) ⌝ }
     ensures words { λ r. ⌜ now (graph .exit) ≡ decodeGraph (now (bytes .entry)) (now (graph .entry)) (now (answer .entry)) ⌝ }

@@ -8,8 +8,9 @@ use mathlib.Core.List.{List}
 use lib.ListN.{length}
 use Rattle.signed_graph.specs.declared.SignedGraph.{SignedGraph}
 use Rattle.signed_graph.specs.Soundness.{sound}
-use Rattle.edge_list.specs.declared.Outcome.{Outcome}
-use Rattle.edge_list.specs.Decoding.{accepted, decoded}
+use Rattle.commands.specs.declared.Outcome.{Outcome}
+use Rattle.commands.specs.Steps.{accepted}
+use Rattle.edge_list.specs.Decoding.{decoded}
 use Rattle.edge_list.proofs.Answers.{accepted-words, accepted-sound, number-accepted}
 use Rattle.reduction.specs.Reductions.{reduced}
 use Rattle.reduction.proofs.Groups.{reduce-keeps}

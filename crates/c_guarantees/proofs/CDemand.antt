@@ -18,7 +18,8 @@ use Rattle.signed_graph.specs.declared.Check.{Check}
 use Rattle.signed_graph.specs.declared.Check.the-variants.{Accepted, Refused}
 use Rattle.signed_graph.specs.Calls.{graphCheck, checkNumber, checkOf, numberBy, refusalNumber}
 use Rattle.signed_graph.proofs.Calls.{call-check}
-use Rattle.edge_list.specs.Decoding.{accepted, decoded}
+use Rattle.commands.specs.Steps.{accepted}
+use Rattle.edge_list.specs.Decoding.{decoded}
 use Rattle.pages.specs.declared.Bookmark.{Bookmark}
 use Rattle.pages.specs.declared.Bookmark.the-variants.{Start, After}
 use Rattle.pages.specs.declared.Page.{Page}

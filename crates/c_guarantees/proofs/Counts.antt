@@ -5,7 +5,8 @@ use mathlib.Core.Path.{_≡_, ap, _∙_}
 use mathlib.Core.List.{List}
 use lib.ListN.{length}
 use Rattle.signed_graph.specs.declared.SignedGraph.{SignedGraph}
-use Rattle.edge_list.specs.Decoding.{accepted, decoded}
+use Rattle.commands.specs.Steps.{accepted}
+use Rattle.edge_list.specs.Decoding.{decoded}
 use Rattle.counts.specs.Calls.{countsOf, countsNumber}
 use Rattle.guarantees.proofs.Counts.{one-number, one-counts}
 use Rattle.c_words.specs.Graphs.{graphAt}

@@ -1,6 +1,6 @@
 -- The users' third demand for the C calls, on arrays: what a list of calls of `mastpickle_list_page` writes, all calls together, where
 -- the answer of one gives the next its bookmark; and what `mastpickle_largest` says. The arrays for graphs are those that
--- `mastpickle_decode` and `mastpickle_reduce` leave. S is the graph of an accepted edge list, k a threshold. Assumes nothing.
+-- `mastpickle_decode` and `mastpickle_reduce` leave. S is the graph of an accepted list, k a threshold. Assumes nothing.
 use Prim.Native.Nat.{ℕ, _≤_}
 use mathlib.Core.Path.{_≡_}
 use mathlib.Core.Logic.{_≢_, _⊎_, _↔_}
@@ -10,7 +10,8 @@ use lib.Dec.{leb, eqb}
 use lib.ListN.{length, getD}
 use Rattle.vertex_set.specs.Lists.{Sorted}
 use Rattle.signed_graph.specs.declared.SignedGraph.{SignedGraph}
-use Rattle.edge_list.specs.Decoding.{accepted, decoded}
+use Rattle.commands.specs.Steps.{accepted}
+use Rattle.edge_list.specs.Decoding.{decoded}
 use Rattle.clique.specs.Listing.{Item, Listed, comesBefore, listing}
 use Rattle.pages.specs.declared.Bookmark.{Bookmark}
 use Rattle.pages.specs.declared.Bookmark.the-variants.{Start}
@@ -27,7 +28,7 @@ use Rattle.c_pages.specs.Calls.{listPageReturns, listPageBuffer, listPageAnswer
 
 -- ---- the arrays for S
 
--- `mastpickle_decode` returned 0 for the edge list, and left the array so: the array has S
+-- `mastpickle_decode` returned 0 for the list, and left the array so: the array has S
 pub record LeftByDecode (bytes array : List ℕ) : Type 0 where
   pub before : List ℕ
   pub answer : List ℕ
@@ -132,7 +133,7 @@ pub record LargestTold (l : List Item) (number : ℕ) (words : List ℕ) : Type 
 
 -- the whole
 pub record CDemand3 (bytes : List ℕ) (S : SignedGraph) (k : ℕ) (calls : List PageCall) : Type 0 where
-  -- the edge list is accepted, and S is its graph
+  -- the list is accepted, and S is its graph
   pub graph : decoded bytes ≡ accepted S
   -- the listing is in listing order, so each group is in it once; and in it is exactly what is a group, with its sides
   pub order : Sorted comesBefore (listing S k)
@@ -148,7 +149,7 @@ pub record CDemand3 (bytes : List ℕ) (S : SignedGraph) (k : ℕ) (calls : List
   pub largest : (graph answer : List ℕ) → ArrayOf bytes k graph → 2 ≤ length answer
       → LargestTold (listing S k) (largestReturns graph k answer) (largestAnswer graph k answer)
 
--- for every edge list that `mastpickle_decode` accepts, every threshold up to 32 and every list of page calls from Start on, refused
+-- for every list that `mastpickle_decode` accepts, every threshold up to 32 and every list of page calls from Start on, refused
 -- ones among them, with arrays of any lengths
 abbrev pub CStatement : Type 0
 CStatement = (bytes before answer : List ℕ) → decodeReturns bytes before answer ≡ 0 → (k : ℕ) → k ≤ 32 → (calls : List PageCall)

@@ -1,15 +1,13 @@
 -- The canonical form: it is in order, it has exactly the edges and the masked vertices of its graph, and there is no other.
 -- Assumes nothing.
 use Prim.Native.Nat.{ℕ, suc, _-_, _≤_, _<_}
-use native.Mathlib.Nat.{lt-of-lt-of-le}
 use native.Mathlib.Omega.{arith}
 use native.Mathlib.Decide.{decLt}
 use mathlib.Core.Path.{_≡_, refl, sym, ap, ap₂, _∙_, subst}
 use mathlib.Core.Bool.{Bool, true, false, _&&_, _||_, or-false}
 use mathlib.Core.List.{List, [], _∷_, List·Memᴰ, List·Memᴰ·head, List·Memᴰ·not-nil, List·Memᴰ·eq-of-singleton}
 use lib.Dec.{ltb, eqb}
-use lib.ListN.{length, getD}
-use lib.Pow.{pow-mono}
+use lib.ListN.{length}
 use borrow.Author.Tests.{ltb-true, lt-ltb, le-ltb, eqb-true, eq-eqb, ne-eqb}
 use Rattle.vertex_set.specs.Lists.{All, any, Sorted}
 use Rattle.vertex_set.specs.Ranges.{gather}
@@ -17,24 +15,16 @@ use Rattle.vertex_set.specs.Sets.{mem}
 use Rattle.vertex_set.proofs.Booleans.{clash, refute, iff, and-intro, and-left, and-right, or-left, or-right, or-cases}
 use Rattle.vertex_set.proofs.Lists.{all-append, all-mem, mem-all, sorted-append, sorted-unique, any-append, any-mem, mem-any}
 use Rattle.vertex_set.proofs.Membership.{mem-lt}
-use Rattle.vertex_set.proofs.Collections.{collect-is}
 use Rattle.vertex_set.proofs.Gathering.{gather-mem, mem-gather, gather-sorted, over-mem, mem-over, over-sorted}
 use Rattle.signed_graph.specs.declared.SignedGraph.{SignedGraph}
-use Rattle.bit_matrix.specs.Matrices.{tableOf}
 use Rattle.signed_graph.specs.Graphs.{positiveEdge, negativeEdge}
-use Rattle.bit_matrix.proofs.Matrices.{table-is}
-use Rattle.signed_graph.proofs.Soundness.{Sound, Table, partner-below}
-use Rattle.edge_list.specs.declared.Sign.{Sign}
-use Rattle.edge_list.specs.declared.Sign.the-variants.{Positive, Negative}
-use Rattle.edge_list.specs.Entries.{Entry, link, mask, sameSign, joins, joinsAs, masks, givenAs, masked, proper, graphOfEntries, bytesOf, listOf}
+use Rattle.signed_graph.proofs.Soundness.{Sound, partner-below}
+use Rattle.commands.specs.declared.Sign.{Sign}
+use Rattle.commands.specs.declared.Sign.the-variants.{Positive, Negative}
+use Rattle.commands.specs.Entries.{Entry, link, mask, sameSign, joins, joinsAs, masks, givenAs, masked, proper, graphOfEntries, bytesOf, listOf}
 use Rattle.canonical.specs.Canonical.{lowerFirst, before, Ordered, CanonicalForm, edgeBy, edgeBetween, edgesAbove, orderedEdges, masksOf, orderedEntries}
-use Rattle.edge_list.proofs.Entries.{joins-cases, as-comm, Allowed, repeats, proper-cons}
-use Rattle.edge_list.proofs.Tables.{sign-self}
-
--- g has an edge of that sign
-abbrev pub edgeAs : Sign → SignedGraph → ℕ → ℕ → Bool
-edgeAs Positive = positiveEdge
-edgeAs Negative = negativeEdge
+use Rattle.commands.proofs.Entries.{joins-cases, as-comm, sign-self, Allowed, repeats, proper-cons}
+use Rattle.commands.proofs.Graphs.{edgeAs, graph-is}
 
 -- ---- the order of entries
 
@@ -253,19 +243,8 @@ module _ (g : SignedGraph) (h : Sound g) where
 
   pub entries-graph : graphOfEntries (g .n) (orderedEntries g) ≡ g
   entries-graph =
-      let parts : graphOfEntries (g .n) (orderedEntries g)
-      ≡ record { n = g .n; positive = g .positive; negative = g .negative; masked = g .masked } =
-      cc (
-        table Positive (g .positive) (h .positives) (λ p q. sym (entries-given Positive p q)),
-        table Negative (g .negative) (h .negatives) (λ p q. sym (entries-given Negative p q)),
-        collect-is 64 (g .masked) (masked (orderedEntries g)) (lt-of-lt-of-le (h .masks) (pow-mono (h .small))) (λ p l. sym (entries-masked p)),
-      ) in
-      parts
-    where
-      table : (s : Sign) (rows : List ℕ) → Table (g .n) rows → ((p q : ℕ) → mem q (getD rows p 0) ≡ givenAs s (orderedEntries g) p q)
-          → rows ≡ tableOf (givenAs s (orderedEntries g))
-      table s rows t e =
-          table-is (givenAs s (orderedEntries g)) rows (t .whole) (λ p l. lt-of-lt-of-le (t .low p) (pow-mono (h .small))) (λ p q l k. e p q)
+      graph-is g (λ s. givenAs s (orderedEntries g)) (masked (orderedEntries g)) h (λ s p q. sym (entries-given s p q))
+      (λ p. sym (entries-masked p))
 
 -- ---- an ordered list below n is proper
 
@@ -350,9 +329,10 @@ ordered-unique es fs o k same also =
         (sym (w s a b) ∙ mem-given s a b xs m)
     moves xs ys u v w z (mask a) m = masked-mem a ys (sym (z a) ∙ mem-any (masks a) (mask a) xs m (eq-eqb a a refl))
 
-pub one-form : (n : ℕ) (es fs : List Entry) (form form′ : List ℕ) → CanonicalForm n es form → CanonicalForm n fs form′
-    → ((s : Sign) (p q : ℕ) → givenAs s es p q ≡ givenAs s fs p q) → ((p : ℕ) → masked es p ≡ masked fs p) → form ≡ form′
-one-form n es fs form form′ c d same also =
+pub one-form : (n : ℕ) (given given′ : Sign → ℕ → ℕ → Bool) (hidden hidden′ : ℕ → Bool) (form form′ : List ℕ)
+    → CanonicalForm n given hidden form → CanonicalForm n given′ hidden′ form′ → ((s : Sign) (p q : ℕ) → given s p q ≡ given′ s p q)
+    → ((p : ℕ) → hidden p ≡ hidden′ p) → form ≡ form′
+one-form n given given′ hidden hidden′ form form′ c d same also =
     c .spelled
     ∙ ap (listOf n) (ordered-unique (c .entries) (d .entries) (c .ordered) (d .ordered)
     (λ s p q. c .same s p q ∙ same s p q ∙ sym (d .same s p q))

@@ -4,7 +4,7 @@ use mathlib.Core.List.{[], _∷_}
 use Rattle.vertex_set.specs.Ranges as R
 use Rattle.vertex_set.specs.Sets as S
 use Rattle.signed_graph.specs.Samples.{sampleA, maskedA}
-use Rattle.edge_list.specs.Entries.{entryBytes}
+use Rattle.commands.specs.Entries.{entryBytes}
 use Rattle.edge_list.proofs.Cases.{listA}
 use Rattle.canonical.specs.Canonical.{orderedEdges, masksOf, canonical}
 

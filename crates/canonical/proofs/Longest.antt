@@ -12,7 +12,7 @@ use Rattle.signed_graph.specs.declared.SignedGraph.{SignedGraph}
 use Rattle.signed_graph.specs.Graphs.{positiveEdge, negativeEdge}
 use Rattle.signed_graph.specs.Soundness.{sound, hasAllRows, loopless, symmetric, confined, unambiguous, masksBelow}
 use Rattle.signed_graph.proofs.EdgeCounts.{pairs-64}
-use Rattle.edge_list.specs.Entries.{entryBytes}
+use Rattle.commands.specs.Entries.{entryBytes}
 use Rattle.canonical.specs.Canonical.{edgeBy, edgeBetween, edgesAbove, orderedEdges, masksOf, canonical}
 use Rattle.canonical.proofs.Rows.{length-form}
 

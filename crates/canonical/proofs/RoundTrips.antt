@@ -11,14 +11,13 @@ use Rattle.vertex_set.proofs.Alternatives.{passes-by}
 use Rattle.signed_graph.specs.declared.SignedGraph.{SignedGraph}
 use Rattle.signed_graph.specs.Soundness.{sound}
 use Rattle.signed_graph.proofs.Soundness.{Sound, to-sound}
-use Rattle.edge_list.specs.declared.Sign.{Sign}
-use Rattle.edge_list.specs.declared.Sign.the-variants.{Positive, Negative}
-use Rattle.edge_list.specs.Entries.{givenAs, masked}
-use Rattle.edge_list.specs.Acceptance.{EdgeListOf}
-use Rattle.edge_list.specs.Decoding.{accepted, decoded}
+use Rattle.commands.specs.declared.Sign.{Sign}
+use Rattle.edge_list.specs.Acceptance.{ListOf, givenBy, maskedBy}
+use Rattle.commands.specs.Steps.{accepted}
+use Rattle.edge_list.specs.Decoding.{decoded}
 use Rattle.canonical.specs.Canonical.{CanonicalForm, orderedEntries, canonical}
 use Rattle.canonical.specs.Encoding.{encoded, buffered, encodedLength}
-use Rattle.edge_list.proofs.Answers.{accepted-words, list-accepted, accepted-sound, accepted-positive, accepted-negative, accepted-masked}
+use Rattle.edge_list.proofs.Answers.{accepted-words, list-accepted, accepted-sound, accepted-edge, accepted-masked}
 use Rattle.canonical.proofs.Canonical.{entries-ordered, entries-given, entries-masked, entries-graph, entries-proper, one-form}
 
 -- ---- the canonical form is an edge list of its graph
@@ -30,30 +29,32 @@ canonical-accepted g e =
 
 -- ---- and the canonical form of every list that gives this graph
 
-canonical-form : {bytes : List ℕ} {g : SignedGraph} (w : EdgeListOf bytes g) → CanonicalForm (g .n) (w .entries) (canonical g)
+canonical-form : {bytes : List ℕ} {g : SignedGraph} (w : ListOf bytes g) → CanonicalForm (g .n) (givenBy w) (maskedBy w) (canonical g)
 canonical-form {bytes} {g} w =
     record {
       entries = orderedEntries g;
       ordered = entries-ordered g;
       spelled = refl;
-      same = same;
+      same = λ s p q. entries-given g h s p q ∙ accepted-edge w s p q;
       same-masks = λ p. entries-masked g h p ∙ accepted-masked w p;
     }
   where
     h : Sound g
     h = to-sound g (accepted-sound w)
 
-    same : (s : Sign) (p q : ℕ) → givenAs s (orderedEntries g) p q ≡ givenAs s (w .entries) p q
-    same Positive p q = entries-given g h Positive p q ∙ accepted-positive w p q
-    same Negative p q = entries-given g h Negative p q ∙ accepted-negative w p q
-
--- lists of the same edges and masks, in any order and either way round, have one canonical form
-pub same-form : {a b : List ℕ} {g h : SignedGraph} (v : EdgeListOf a g) (w : EdgeListOf b h) → g .n ≡ h .n
-    → ((s : Sign) (p q : ℕ) → givenAs s (v .entries) p q ≡ givenAs s (w .entries) p q)
-    → ((p : ℕ) → masked (v .entries) p ≡ masked (w .entries) p) → canonical g ≡ canonical h
+-- lists that give the same edges and masks, in any order, either way round and of either opening, have one canonical form
+pub same-form : {a b : List ℕ} {g h : SignedGraph} (v : ListOf a g) (w : ListOf b h) → g .n ≡ h .n
+    → ((s : Sign) (p q : ℕ) → givenBy v s p q ≡ givenBy w s p q) → ((p : ℕ) → maskedBy v p ≡ maskedBy w p) → canonical g ≡ canonical h
 same-form {a} {b} {g} {h} v w e same also =
-    one-form (h .n) (v .entries) (w .entries) (canonical g) (canonical h)
-    (subst (λ (m : ℕ). CanonicalForm m (v .entries) (canonical g)) e (canonical-form v)) (canonical-form w) same also
+    one-form (h .n) (givenBy v) (givenBy w) (maskedBy v) (maskedBy w) (canonical g) (canonical h)
+    (subst (λ (m : ℕ). CanonicalForm m (givenBy v) (maskedBy v) (canonical g)) e (canonical-form v)) (canonical-form w) same also
+
+-- two lists of one graph, of either opening, have one canonical form
+pub one-graph-one-form : {a b : List ℕ} {g : SignedGraph} (v : ListOf a g) (w : ListOf b g) (form form′ : List ℕ)
+    → CanonicalForm (g .n) (givenBy v) (maskedBy v) form → CanonicalForm (g .n) (givenBy w) (maskedBy w) form′ → form ≡ form′
+one-graph-one-form {a} {b} {g} v w form form′ c d =
+    one-form (g .n) (givenBy v) (givenBy w) (maskedBy v) (maskedBy w) form form′ c d
+    (λ s p q. sym (accepted-edge v s p q) ∙ accepted-edge w s p q) (λ p. sym (accepted-masked v p) ∙ accepted-masked w p)
 
 -- ---- what `encode` wrote
 
@@ -79,7 +80,7 @@ module _ (g : SignedGraph) (out : List ℕ) (e : sound g ≡ true) (room : lengt
 
 -- what is decoded encodes to the canonical form of the list
 pub decode-encode : (bytes : List ℕ) (g : SignedGraph) (out : List ℕ) (e : decoded bytes ≡ accepted g) → length (canonical g) ≤ length out
-    → CanonicalForm (g .n) (accepted-words bytes g e .entries) (writtenBy g out)
+    → CanonicalForm (g .n) (givenBy (accepted-words bytes g e)) (maskedBy (accepted-words bytes g e)) (writtenBy g out)
 decode-encode bytes g out e room =
-    let w : EdgeListOf bytes g = accepted-words bytes g e in
-    subst (CanonicalForm (g .n) (w .entries)) (sym (writes-canonical g out (accepted-sound w) room)) (canonical-form w)
+    let w : ListOf bytes g = accepted-words bytes g e in
+    subst (CanonicalForm (g .n) (givenBy w) (maskedBy w)) (sym (writes-canonical g out (accepted-sound w) room)) (canonical-form w)

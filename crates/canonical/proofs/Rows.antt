@@ -21,7 +21,7 @@ use Rattle.signed_graph.specs.declared.SignedGraph.{SignedGraph}
 use Rattle.signed_graph.specs.Graphs.{positiveEdge, negativeEdge, edge, edgeCount}
 use Rattle.signed_graph.proofs.Soundness.{Sound, high-row}
 use Rattle.signed_graph.proofs.EdgeCounts.{mem-above, above, lower-all}
-use Rattle.edge_list.specs.Entries.{Entry, link, mask, commandByte, bytesOf, entryBytes}
+use Rattle.commands.specs.Entries.{Entry, link, mask, commandByte, bytesOf, entryBytes}
 use Rattle.canonical.specs.Canonical.{edgeBy, edgeBetween, edgesAbove, orderedEdges, masksOf, orderedMasks, orderedEntries, canonical}
 use Rattle.canonical.specs.EdgeRows.{signBy, edgesTo}
 use Rattle.canonical.proofs.Canonical.{edges-three, masks-two}

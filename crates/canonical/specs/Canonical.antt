@@ -10,9 +10,9 @@ use Rattle.vertex_set.specs.Ranges.{gather}
 use Rattle.vertex_set.specs.Sets.{overMembers}
 use Rattle.signed_graph.specs.declared.SignedGraph.{SignedGraph}
 use Rattle.signed_graph.specs.Graphs.{positiveEdge, negativeEdge}
-use Rattle.edge_list.specs.declared.Sign.{Sign}
-use Rattle.edge_list.specs.declared.Sign.the-variants.{Positive, Negative}
-use Rattle.edge_list.specs.Entries.{Entry, link, mask, givenAs, masked, listOf}
+use Rattle.commands.specs.declared.Sign.{Sign}
+use Rattle.commands.specs.declared.Sign.the-variants.{Positive, Negative}
+use Rattle.commands.specs.Entries.{Entry, link, mask, givenAs, masked, listOf}
 
 -- ---- in words
 
@@ -31,14 +31,14 @@ pub record Ordered (es : List Entry) : Type 0 where
   pub lower : All (λ e. lowerFirst e ≡ true) es
   pub ascending : Sorted before es
 
--- `form` is the canonical form (document 01: the plain form) of a list of n vertices with the entries es: the same edges and masks
--- in order
-pub record CanonicalForm (n : ℕ) (es : List Entry) (form : List ℕ) : Type 0 where
+-- `form` is the canonical form (document 01: the plain form) of a list of n vertices that gives these edges of each sign and masks
+-- these vertices: an edge list of the same in order
+pub record CanonicalForm (n : ℕ) (given : Sign → ℕ → ℕ → Bool) (hidden : ℕ → Bool) (form : List ℕ) : Type 0 where
   pub entries : List Entry
   pub ordered : Ordered entries
   pub spelled : form ≡ listOf n entries
-  pub same : (s : Sign) (p q : ℕ) → givenAs s entries p q ≡ givenAs s es p q
-  pub same-masks : (p : ℕ) → masked entries p ≡ masked es p
+  pub same : (s : Sign) (p q : ℕ) → givenAs s entries p q ≡ given s p q
+  pub same-masks : (p : ℕ) → masked entries p ≡ hidden p
 
 -- ---- of a graph, computed
 

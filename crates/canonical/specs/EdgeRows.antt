@@ -3,9 +3,9 @@ use Prim.Native.Nat.{ℕ}
 use mathlib.Core.Bool.{Bool, true, false}
 use mathlib.Core.List.{List, [], _∷_}
 use Rattle.vertex_set.specs.Sets.{mem, overMembers}
-use Rattle.edge_list.specs.declared.Sign.{Sign}
-use Rattle.edge_list.specs.declared.Sign.the-variants.{Positive, Negative}
-use Rattle.edge_list.specs.Entries.{Entry, link}
+use Rattle.commands.specs.declared.Sign.{Sign}
+use Rattle.commands.specs.declared.Sign.the-variants.{Positive, Negative}
+use Rattle.commands.specs.Entries.{Entry, link}
 
 -- the sign of an edge, by whether it is positive
 abbrev pub signBy : Bool → Sign

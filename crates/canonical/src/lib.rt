@@ -9,7 +9,7 @@ ghost use lib.ListN.{length};
 ghost use Rattle.vertex_set.specs.Buffers.{overwritten};
 ghost use Rattle.vertex_set.specs.Sets.{mem};
 ghost use Rattle.signed_graph.specs.Soundness.{sound};
-ghost use Rattle.edge_list.specs.Entries.{commandByte, entryBytes};
+ghost use Rattle.commands.specs.Entries.{commandByte, entryBytes};
 ghost use Rattle.canonical.specs.Canonical.{orderedEdges, masksOf, canonical};
 ghost use Rattle.canonical.specs.Encoding as encoding;
 ghost use Rattle.canonical.specs.Encoding.{encoded, buffered, encodingNumber, encodingLength};

@@ -1,5 +1,5 @@
 // Prints the groups of a graph, the largest of them, and how many there are. Standard input has the threshold, one byte, and
-// then the edge list of the graph. After a write that fails nothing more is printed.
+// then an edge list or an amendment list of the graph. After a write that fails nothing more is printed.
 mod streams;
 mod usage;
 

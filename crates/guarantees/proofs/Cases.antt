@@ -27,7 +27,8 @@ use Rattle.clique.specs.Verdicts.{classified}
 use Rattle.clique.proofs.Cases.{set, samples-sound, cases-groups, cases-verdicts}
 use Rattle.reduction.specs.Reductions.{reduced}
 use Rattle.reduction.proofs.Cases as reduction
-use Rattle.edge_list.specs.Decoding.{accepted, decoded}
+use Rattle.commands.specs.Steps.{accepted}
+use Rattle.edge_list.specs.Decoding.{decoded}
 use Rattle.edge_list.proofs.Cases.{listA, turnedA, listT2, listT3, listT4, decodes}
 use Rattle.canonical.specs.Canonical.{canonical}
 use Rattle.canonical.proofs.Cases.{writes-A}

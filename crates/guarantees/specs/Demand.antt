@@ -1,5 +1,5 @@
 -- The users' third demand: what a list of page calls writes, all calls together, and what the call for the largest group says.
--- S is the graph of an accepted edge list, k a threshold. Assumes nothing.
+-- S is the graph of an accepted list, k a threshold. Assumes nothing.
 use Prim.Native.Nat.{ℕ, _≤_}
 use mathlib.Core.Path.{_≡_}
 use mathlib.Core.Logic.{_≢_, _⊎_, _↔_}
@@ -11,7 +11,8 @@ use Rattle.signed_graph.specs.declared.SignedGraph.{SignedGraph}
 use Rattle.signed_graph.specs.declared.Check.{Check}
 use Rattle.signed_graph.specs.declared.Check.the-variants.{Accepted, Refused}
 use Rattle.reduction.specs.Reductions.{reduced}
-use Rattle.edge_list.specs.Decoding.{accepted, decoded}
+use Rattle.commands.specs.Steps.{accepted}
+use Rattle.edge_list.specs.Decoding.{decoded}
 use Rattle.pages.specs.declared.Bookmark.{Bookmark}
 use Rattle.pages.specs.declared.Bookmark.the-variants.{Start}
 use Rattle.pages.specs.declared.Page.{Page}
@@ -89,8 +90,8 @@ pub record Demand3 (S : SignedGraph) (k : ℕ) (calls : List Call) : Type 0 wher
   -- the largest group, asked of S or of S reduced for k
   pub largest : (g : SignedGraph) → OneOf S k g → (r : LargestGroup) → r ≡ largestGroup g k → Largest (listing S k) r
 
--- for every accepted edge list, every threshold up to 32 and every list of page calls from Start on, refused ones among them, with
--- buffers of any lengths
+-- for every accepted list, be it an edge list or an amendment list, every threshold up to 32 and every list of page calls from Start
+-- on, refused ones among them, with buffers of any lengths
 abbrev pub Statement : Type 0
 Statement = (bytes : List ℕ) (S : SignedGraph) → decoded bytes ≡ accepted S → (k : ℕ) → k ≤ 32 → (calls : List Call)
     → Linked S k Start calls → Demand3 S k calls

@@ -1,19 +1,20 @@
 // The calls that demand 3 speaks of. Each does what the call of its name does, and ensures what the theorem asks of it. Nothing
 // calls them: they tie the theorem to the calls.
-use edge_list::Decoded;
+use commands::Decoded;
 use largest::LargestGroup;
 use pages::Bookmark;
 use pages::Page;
 use reduction::Reduced;
 use signed_graph::SignedGraph;
 ghost use mathlib.Core.Path.{_≡_};
-ghost use Rattle.edge_list.specs.declared.Outcome.the-variants as outcome;
-ghost use Rattle.edge_list.specs.Decoding.{accepted, decoded};
+ghost use Rattle.commands.specs.declared.Outcome.the-variants as outcome;
+ghost use Rattle.commands.specs.Steps.{accepted};
+ghost use Rattle.edge_list.specs.Decoding.{decoded};
 ghost use Rattle.reduction.specs.Reductions.{reduced};
 ghost use Rattle.largest.specs.Largest.{largestGroup};
 ghost use Rattle.guarantees.specs.Demand.{Ran, OneOf, callOf};
 
-// An accepted edge list has a graph, the S of the theorem.
+// An accepted list has a graph, the S of the theorem.
 pub fn decode_call(bytes: &[u8]) -> Decoded
     ensures { λ r. ⌜ r ≡ decoded (now (bytes .entry)) ⌝ }
     ensures { λ r. ⌜ (r .outcome ≡ outcome.Accepted → decoded (now (bytes .entry)) ≡ accepted (r .graph)) ⌝ }

@@ -31,7 +31,7 @@ pub extern "C" fn mastpickle_check_call(graph: &[u64], k: u64) -> u64
     c_graphs::check_call(graph, k)
 }
 
-// Writes the graph of an edge list, and the place of its fault.
+// Writes the graph of an edge list or an amendment list, and the place of its fault.
 #[no_mangle]
 pub extern "C" fn mastpickle_decode(bytes: &[u8], graph: &mut [u64], answer: &mut [u64]) -> u64
     ensures number { λ r. ⌜ r ≡ decodeReturns (now (bytes .entry)) (now (graph .entry)) (now (answer .entry)) ⌝ }

@@ -1,4 +1,5 @@
--- What is printed for document 01's sample, also with a vertex masked, and for inputs that are refused, byte for byte.
+-- What is printed for document 01's sample, also with a vertex masked and as an amendment list, and for inputs that are refused, byte
+-- for byte.
 -- Assumes nothing.
 use Prim.Native.Nat.{ℕ, _≤_}
 use native.Mathlib.Omega.{arith}
@@ -18,10 +19,11 @@ use Rattle.clique.specs.Balance.{left, right}
 use Rattle.clique.specs.Listing.{Item, itemOf, listing}
 use Rattle.clique.proofs.Cases.{cases-groups}
 use Rattle.largest.specs.Largest.{largestOf, largestOrNone, largestGroupBy}
-use Rattle.edge_list.specs.Acceptance.{EdgeListOf}
-use Rattle.edge_list.specs.Decoding.{decoded, decodedFrom, commandStep, stepBy, edgeStep, maskStep, commandOf}
+use Rattle.edge_list.specs.Acceptance.{ListOf}
+use Rattle.commands.specs.Steps.{commandStep, stepBy, edgeStep, maskStep, commandOf}
+use Rattle.edge_list.specs.Decoding.{decoded, decodedEdges, decodedFrom}
 use Rattle.edge_list.proofs.Answers.{accepted-words, accepted-sound}
-use Rattle.edge_list.proofs.Cases.{listA, listMaskedA, listT2, decodes}
+use Rattle.edge_list.proofs.Cases.{listA, listMaskedA, listAmendedA, listT2, decodes}
 use Rattle.decimals.specs.Decimals.{digits, decimal}
 use Rattle.report.specs.Lines.{
   preceded,
@@ -77,6 +79,8 @@ pub record Outputs : Type 0 where
   pub T5 : printed (0x01 ∷ listA) ≡ linesA
   -- the byte 01 and the list of A with vertex 4 masked
   pub masked : printed (0x01 ∷ listMaskedA) ≡ linesMaskedA
+  -- the byte 01 and an amendment list of A
+  pub amended : printed (0x01 ∷ listAmendedA) ≡ linesA
   -- the byte 03 and the list of A
   pub T7 : printed (0x03 ∷ listA) ≡ linesNone
   -- empty input: `refused 1 at 0`
@@ -93,17 +97,20 @@ pub record Outputs : Type 0 where
 
 -- ---- the lists that are accepted
 
-list-A : EdgeListOf listA sampleA
+list-A : ListOf listA sampleA
 list-A = accepted-words listA sampleA (decodes .A)
 
-list-masked : EdgeListOf listMaskedA (maskedA 16)
+list-masked : ListOf listMaskedA (maskedA 16)
 list-masked = accepted-words listMaskedA (maskedA 16) (decodes .A-masked)
 
-list-T2 : EdgeListOf listT2 (edgeless 1)
+list-amended : ListOf listAmendedA sampleA
+list-amended = accepted-words listAmendedA sampleA (decodes .A-amended)
+
+list-T2 : ListOf listT2 (edgeless 1)
 list-T2 = accepted-words listT2 (edgeless 1) (decodes .T2)
 
 -- what is printed for such a list, by the listing of its graph
-listed : {list : List ℕ} {g : SignedGraph} → EdgeListOf list g → (k : ℕ) (l : List Item) → k ≤ 32 → listing g k ≡ l
+listed : {list : List ℕ} {g : SignedGraph} → ListOf list g → (k : ℕ) (l : List Item) → k ≤ 32 → listing g k ≡ l
     → printed (k ∷ list) ≡ groupsText l ++ (lineText (lineOfLargest (largestOrNone (largestOf l))) ++ countLine (length l))
 listed {list} {g} w k l h e =
     groups-printed k list g w h
@@ -111,12 +118,13 @@ listed {list} {g} w k l h e =
     (ap₂ checkBy (accepted-sound w) (le-leb k 32 h)) e
 
 pub cases-outputs : Outputs
-unfolding decoded decodedFrom commandStep stepBy edgeStep maskStep commandOf any listing left right groupsText largestOf printed R.gather R.seek R.count S.mem S.collect S.lowest S.size S.overMembers digits decimal preceded spaced lineOf vertexWords groupWords groupLine largestLine noneLine countLine refusalLine faultLine
+unfolding decoded decodedEdges decodedFrom commandStep stepBy edgeStep maskStep commandOf any listing left right groupsText largestOf printed R.gather R.seek R.count S.mem S.collect S.lowest S.size S.overMembers digits decimal preceded spaced lineOf vertexWords groupWords groupLine largestLine noneLine countLine refusalLine faultLine
 cases-outputs =
     record {
       T2 = listed list-T2 0 _ (omega arith) (ap (map (itemOf (edgeless 1))) (cases-groups .T2 0));
       T5 = listed list-A 1 _ (omega arith) (ap (map (itemOf sampleA)) (cases-groups .T5));
       masked = listed list-masked 1 _ (omega arith) (ap (map (itemOf (maskedA 16))) (cases-groups .masked-4));
+      amended = listed list-amended 1 _ (omega arith) (ap (map (itemOf sampleA)) (cases-groups .T5));
       T7 = listed list-A 3 _ (omega arith) (ap (map (itemOf sampleA)) (cases-groups .T7));
       empty = refl;
       threshold-33 = threshold-printed 33 listA sampleA list-A (omega arith);

@@ -12,13 +12,14 @@ use Rattle.signed_graph.specs.declared.Refusal.the-variants.{ThresholdTooLarge}
 use Rattle.signed_graph.specs.Calls.{checkBy, checkOf}
 use Rattle.clique.specs.Listing.{listing}
 use Rattle.largest.specs.Largest.{largestGroup}
-use Rattle.edge_list.specs.declared.Fault.{Fault}
-use Rattle.edge_list.specs.declared.Outcome.{Outcome}
-use Rattle.edge_list.specs.declared.Outcome.the-variants as outcome
-use Rattle.edge_list.specs.declared.Decoded.{Decoded}
-use Rattle.edge_list.specs.Faults.{faultNumber, faultPlace, FaultIn}
+use Rattle.commands.specs.declared.Fault.{Fault}
+use Rattle.commands.specs.declared.Outcome.{Outcome}
+use Rattle.commands.specs.declared.Outcome.the-variants as outcome
+use Rattle.commands.specs.declared.Decoded.{Decoded}
+use Rattle.commands.specs.Faults.{faultNumber, faultPlace}
+use Rattle.edge_list.specs.Faults.{FaultIn}
 use Rattle.edge_list.specs.Decoding.{decoded}
-use Rattle.edge_list.specs.Acceptance.{EdgeListOf}
+use Rattle.edge_list.specs.Acceptance.{ListOf}
 use Rattle.edge_list.proofs.Answers.{words-accepted, words-refused, accepted-sound}
 use Rattle.report.specs.Lines.{lineText, countLine, refusalLine, faultLine}
 use Rattle.output.specs.declared.Answer.the-variants.{Groups}
@@ -57,7 +58,7 @@ unfolding printed
 fault-printed k list f w = ap (λ (d : Decoded). printedOf (dueOf d k)) (words-refused list f w)
 
 -- an edge list of g
-module _ (k : ℕ) (list : List ℕ) (g : SignedGraph) (w : EdgeListOf list g) where
+module _ (k : ℕ) (list : List ℕ) (g : SignedGraph) (w : ListOf list g) where
   of-check : (c : Check) → checkOf g k ≡ c
       → printed (k ∷ list) ≡ listingText (callAnswer c) g k ++ closingText (closingBy (callAnswer c) g k)
   unfolding printed

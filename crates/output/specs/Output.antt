@@ -11,11 +11,11 @@ use Rattle.signed_graph.specs.Calls.{checkOf, refusalOf}
 use Rattle.clique.specs.Listing.{Item, listing}
 use Rattle.largest.specs.declared.LargestGroup.{LargestGroup}
 use Rattle.largest.specs.Largest.{largestGroup}
-use Rattle.edge_list.specs.declared.Fault.{Fault}
-use Rattle.edge_list.specs.declared.Outcome.{Outcome}
-use Rattle.edge_list.specs.declared.Outcome.the-variants as outcome
-use Rattle.edge_list.specs.declared.Decoded.{Decoded}
-use Rattle.edge_list.specs.Faults.{faultNumber, faultPlace}
+use Rattle.commands.specs.declared.Fault.{Fault}
+use Rattle.commands.specs.declared.Outcome.{Outcome}
+use Rattle.commands.specs.declared.Outcome.the-variants as outcome
+use Rattle.commands.specs.declared.Decoded.{Decoded}
+use Rattle.commands.specs.Faults.{faultNumber, faultPlace}
 use Rattle.edge_list.specs.Decoding.{decoded}
 use Rattle.report.specs.declared.Line.{Line}
 use Rattle.report.specs.declared.Line.the-variants as line
@@ -26,14 +26,14 @@ use Rattle.output.specs.declared.Due.{Due}
 use Rattle.output.specs.declared.Closing.{Closing}
 use Rattle.output.specs.declared.Closing.the-variants as closing
 
--- the input is one byte, the threshold, and then the edge list (document 01: the book); empty input is threshold 0 and an empty list
+-- the input is one byte, the threshold, and then the list (document 01: the book); empty input is threshold 0 and an empty list
 abbrev pub inputThreshold : List ℕ → Threshold
 inputThreshold input = getD input 0 0
 
 abbrev pub inputList : List ℕ → List ℕ
 inputList input = drop 1 input
 
--- a refused edge list: `refused`, the number, `at` and the place, which is counted from the list's first byte
+-- a refused list: `refused`, the number, `at` and the place, which is counted from the list's first byte
 abbrev pub lineOfFault : Fault → Line
 lineOfFault f = line.Fault (faultNumber f) (faultPlace f)
 
@@ -49,7 +49,7 @@ abbrev pub callAnswer : Check → Answer
 callAnswer check.Accepted = answer.Groups
 callAnswer (check.Refused why) = answer.Refused (lineOfRefusal why)
 
--- the edge list is looked at first, then the threshold
+-- the list is looked at first, then the threshold
 abbrev pub answerBy : Outcome → Check → Answer
 answerBy (outcome.Refused f) c = listAnswer (outcome.Refused f)
 answerBy outcome.Accepted c = callAnswer c

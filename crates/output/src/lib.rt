@@ -1,6 +1,6 @@
 // What the program `groups` has to print for an input.
-use edge_list::Fault;
-use edge_list::Outcome;
+use commands::Fault;
+use commands::Outcome;
 use report::Line;
 use signed_graph::Check;
 use signed_graph::Refusal;
@@ -31,7 +31,7 @@ pub enum Closing {
     Lines(Line, Line),
 }
 
-// The line of a refused edge list.
+// The line of a refused list.
 fn fault_line(fault: Fault) -> Line
     ensures { λ r. ⌜ r ≡ lineOfFault fault ⌝ }
 {
@@ -45,7 +45,7 @@ fn refusal_line(why: Refusal) -> Line
     Line::Refusal(why.number())
 }
 
-// The answer by the outcome of the edge list.
+// The answer by the outcome of the list.
 fn list_answer(outcome: Outcome) -> Answer
     ensures { λ r. ⌜ r ≡ listAnswer outcome ⌝ }
 {
@@ -65,7 +65,7 @@ fn call_answer(checked: Check) -> Answer
     }
 }
 
-// What is due for a threshold and an edge list.
+// What is due for a threshold and a list.
 fn due_of(threshold: u64, list: &[u8]) -> Due
     ensures { λ r. ⌜ r ≡ dueOf (decoded (now (list .entry))) threshold ⌝ }
 {
@@ -88,7 +88,7 @@ fn due_of(threshold: u64, list: &[u8]) -> Due
     }
 }
 
-// What is due for an input: its first byte is the threshold, and an edge list follows. An empty input is the threshold 0 and an
+// What is due for an input: its first byte is the threshold, and a list follows. An empty input is the threshold 0 and an
 // empty list.
 pub fn due_for(input: &[u8]) -> Due
     ensures { λ r. ⌜ r ≡ dueFor (now (input .entry)) ⌝ }

@@ -1,25 +1,35 @@
 //! Edge lists (pair books): decoding (reading) and encoding (writing).
 
+use super::amendment_list;
 use super::graph::{vertices, SignedGraph, MOST_VERTICES};
 
 const OPEN: u8 = 0x10;
-const POSITIVE: u8 = 0x21;
-const NEGATIVE: u8 = 0x22;
-const MASK: u8 = 0x23;
-const CLOSE: u8 = 0xff;
+const OPEN_AMENDMENTS: u8 = 0x11;
+pub(super) const POSITIVE: u8 = 0x21;
+pub(super) const NEGATIVE: u8 = 0x22;
+pub(super) const MASK: u8 = 0x23;
+pub(super) const ERASE: u8 = 0x24;
+pub(super) const CLOSE: u8 = 0xff;
 
-/// Decodes an edge list, or gives the number of the refusal and its place.
+/// Decodes an edge list or an amendment list, or gives the number of the refusal and its place.
 pub fn decode(bytes: &[u8]) -> Result<SignedGraph, (u64, usize)> {
-    if bytes.first() != Some(&OPEN) {
-        return Err((1, 0));
-    }
+    let decode_commands = match bytes.first() {
+        Some(&OPEN) => decode_once_given,
+        Some(&OPEN_AMENDMENTS) => amendment_list::decode,
+        _ => return Err((1, 0)),
+    };
     let Some(&n) = bytes.get(1) else {
         return Err((4, 0));
     };
     if u64::from(n) > MOST_VERTICES {
         return Err((2, 0));
     }
-    let mut graph = SignedGraph::new(u64::from(n));
+    decode_commands(n.into(), bytes)
+}
+
+/// Decodes a list whose opening is whole, for n vertices, in which edges and masks are given once.
+fn decode_once_given(n: u64, bytes: &[u8]) -> Result<SignedGraph, (u64, usize)> {
+    let mut graph = SignedGraph::new(n);
     let mut place = 2;
     loop {
         match bytes.get(place) {

@@ -1,5 +1,6 @@
 //! A second implementation of the whole product, written for clearness and by other methods than the library's.
 
+mod amendment_list;
 mod classify;
 mod counts;
 mod edge_list;
@@ -17,5 +18,5 @@ pub use groups::{groups, groups_by_cover, groups_by_subsets, left_first, meets, 
 pub use pages::{
     comes_before, largest, list_page, listing_order, page_of, record_at, Bookmark, Page,
 };
-pub use program::program;
+pub use program::{program, MOST_INPUT};
 pub use reduce::{fits, reduce, round, rounds, Reduced, Round};

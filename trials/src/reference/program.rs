@@ -6,7 +6,7 @@ use super::groups::groups;
 use super::pages::largest;
 
 /// The most bytes of its input that the program reads.
-const MOST_INPUT: usize = 65_536;
+pub const MOST_INPUT: usize = 65_536;
 
 /// The standard output of `groups` for an input: a byte k, then an edge list.
 pub fn program(input: &[u8]) -> String {

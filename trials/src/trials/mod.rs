@@ -1,18 +1,24 @@
 //! The trials: each compares one part of the library with the reference over many generated cases.
 
+mod amendments;
+mod amendments_by_hand;
 mod arrays;
 mod by_hand;
 mod child;
+mod cut_inputs;
 mod expect;
 mod guards;
 mod header;
 mod kinds;
+mod list_notes;
+mod long_amendments;
 mod many_groups;
 mod masked;
 mod masked_by_hand;
 mod page_lists;
 mod program;
 mod reference;
+mod replay;
 mod stack;
 mod streams;
 mod symbols;
@@ -44,7 +50,7 @@ const fn trial(
 }
 
 /// All trials; the longest come first, so that two threads share the work evenly.
-pub const TRIALS: [Trial; 27] = [
+pub const TRIALS: [Trial; 29] = [
     trial("program", 6_000, program::run),
     trial("reduce", 150_000, with_graphs::reduce),
     trial("page_lists", 30_000, page_lists::run),
@@ -58,6 +64,8 @@ pub const TRIALS: [Trial; 27] = [
     trial("streams", 1, streams::run),
     trial("count", 40_000, with_counts::count),
     trial("decode", 150_000, with_lists::decode),
+    trial("amendments", 6_000, amendments::run),
+    trial("long_amendments", 5, long_amendments::run),
     trial("stack", 3_000, stack::run),
     trial("encode", 60_000, with_lists::encode),
     trial("count_many", 5, with_counts::count_many),

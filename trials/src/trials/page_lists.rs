@@ -4,7 +4,7 @@ use super::expect::{self, graph_of, records, words};
 use super::kinds::{count_kinds, KINDS};
 use super::tally::{each_case, hex, Tally};
 use crate::generate::{
-    buffer_length, edge_list, over_most, rich_graph, scrambled, unsound, Rng, UNSOUND_KINDS,
+    amended, buffer_length, graph, over_most, rich_graph, scrambled, unsound, Rng, UNSOUND_KINDS,
 };
 use crate::interface::{self, noise, Place, GRAPH_WORDS};
 use crate::reference::{comes_before, groups};
@@ -22,13 +22,21 @@ struct Listing {
     joined: Vec<u8>,
 }
 
+/// Lists of calls that begin with an amendment list.
+const AMENDED: &str = "amendment lists";
+
 pub fn run(seed: u64, amount: u64) -> Result<Tally, String> {
     let tally = each_case("page_lists", seed, amount, |rng, tally| {
-        let list = if rng.chance(50) {
-            let graph = rich_graph(rng);
-            scrambled(rng, &graph)
+        let graph = if rng.chance(50) {
+            rich_graph(rng)
         } else {
-            edge_list(rng).1
+            graph(rng)
+        };
+        let list = if rng.chance(30) {
+            tally.count(AMENDED);
+            amended(rng, &graph)
+        } else {
+            scrambled(rng, &graph)
         };
         let any = rng.below(33);
         let k = rng.pick(&[0, 0, 0, 0, 0, 0, 1, 1, 1, 1, 2, 2, 3, 4, 32, any]);
@@ -37,6 +45,7 @@ pub fn run(seed: u64, amount: u64) -> Result<Tally, String> {
     })?;
     tally.each_refused(&[10, 11, 101, 102, 103])?;
     tally.each_counted(&KINDS)?;
+    tally.each_counted(&[AMENDED])?;
     Ok(tally)
 }
 

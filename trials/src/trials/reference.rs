@@ -2,24 +2,31 @@
 
 use super::expect::words;
 use super::kinds::{count_kinds, ISOLATED, MASKED};
-use super::tally::{each_case, hex_words, Tally};
-use super::{by_hand, masked_by_hand};
-use crate::generate::{falling, sets_to_count, small_graph, with_tail, Rng};
+use super::replay::{Replay, AMENDED};
+use super::tally::{each_case, hex, hex_words, Tally};
+use super::{amendments_by_hand, by_hand, masked_by_hand};
+use crate::generate::{
+    amendment_list, edge_list, falling, random_amendment_list, sets_to_count, small_graph,
+    with_tail, Rng,
+};
 use crate::reference::*;
 
 pub fn run(seed: u64, amount: u64) -> Result<Tally, String> {
     by_hand::check()?;
     masked_by_hand::check()?;
+    amendments_by_hand::check()?;
     let tally = each_case("reference", seed, amount, |rng, tally| {
         let graph = small_graph(rng);
         one_graph(rng, tally, &graph).map_err(|fault| at(&graph, fault))?;
         let (graph, k) = falling(rng);
         rounds_everywhere(tally, &graph, k).map_err(|fault| at(&graph, fault))?;
         let (graph, k, falling) = with_tail(rng);
-        one_a_round(&graph, k, falling).map_err(|fault| at(&graph, fault))
+        one_a_round(&graph, k, falling).map_err(|fault| at(&graph, fault))?;
+        amendments(rng, tally)
     })?;
     tally.each_counted(&[ISOLATED])?;
     tally.each_counted(&MASKED)?;
+    tally.each_counted(&AMENDED)?;
     Ok(tally)
 }
 
@@ -109,6 +116,24 @@ fn verdicts(graph: &SignedGraph, k: u64, due: &[(u64, u64)]) -> Result<(), Strin
         {
             return Err(format!("classify and listing differ on {set:x} for {k}"));
         }
+    }
+    Ok(())
+}
+
+/// Holds amendment lists to their commands carried out one by one, and lists that open with 10 to the same ones that open
+/// with 11.
+fn amendments(rng: &mut Rng, tally: &mut Tally) -> Result<(), String> {
+    for list in [amendment_list(rng).1, random_amendment_list(rng)] {
+        let replay = Replay::new(&list);
+        replay.count(tally);
+        if decode(&list) != Ok(replay.graph) {
+            return Err(format!("{} gives another graph one by one", hex(&list)));
+        }
+    }
+    let (graph, mut list) = edge_list(rng);
+    list[0] = 0x11;
+    if decode(&list) != Ok(graph) {
+        return Err(format!("{} gives another graph than with 10", hex(&list)));
     }
     Ok(())
 }

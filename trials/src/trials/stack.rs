@@ -4,8 +4,8 @@ use super::expect::{place, words};
 use super::header;
 use super::tally::{each_case, Tally};
 use crate::generate::{
-    balanced_on, bookmark, buffer_length, dense_graph, graph, masking, moon_moser, number_of_sets,
-    rich_graph, scrambled, set_to_classify, threshold, traps, with_density, Rng,
+    amended, balanced_on, bookmark, buffer_length, dense_graph, graph, masking, moon_moser,
+    number_of_sets, rich_graph, scrambled, set_to_classify, threshold, traps, with_density, Rng,
 };
 use crate::interface::{c, noise, OwnStack, GRAPH_WORDS};
 use crate::reference::SignedGraph;
@@ -98,7 +98,11 @@ impl Arrays {
         let length = buffer_length(rng);
         let sets = number_of_sets(rng);
         Arrays {
-            list: scrambled(rng, graph),
+            list: if rng.chance(50) {
+                amended(rng, graph)
+            } else {
+                scrambled(rng, graph)
+            },
             graph: words(graph),
             written: noise(rng, GRAPH_WORDS),
             out: noise(rng, length),

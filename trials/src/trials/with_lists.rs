@@ -3,37 +3,107 @@
 use super::arrays::{any_graph, graph_array, room, same};
 use super::expect::{self, graph_of, words};
 use super::kinds::{count_masked, MASKED};
+use super::list_notes::{each_noted, note_decoded};
 use super::tally::{each_case, hex, hex_words, Tally};
 use crate::generate::{
-    damaged, edge_list, longest, mutated, random_bytes, scrambled, Rng, REFUSALS,
+    amendment_list, damaged, damaged_amendments, edge_list, longest, mutated,
+    random_amendment_list, random_bytes, scrambled, Damage, Rng, AMENDMENT_REFUSALS, REFUSALS,
 };
-use crate::interface::{self, noise, Outcome, GRAPH_WORDS};
-use crate::reference;
+use crate::interface::{self, noise, GRAPH_WORDS};
+use crate::reference::{self, SignedGraph};
 
-/// A list of any kind; one that was damaged on purpose must be refused by the reference as it was meant to be.
+/// How amendment lists are made; each has to come up.
+const MADE: [&str; 6] = [
+    "amendment lists made for a graph",
+    "amendment lists damaged on purpose",
+    "amendment lists mutated",
+    "amendment lists at random",
+    "random bytes behind the opening 11",
+    "lists with the other opening",
+];
+
+/// A list of any kind. One that was made for a graph or for a refusal must be what it was made for, by the reference.
 fn any_list(rng: &mut Rng, tally: &mut Tally) -> Result<Vec<u8>, String> {
-    match rng.below(8) {
-        0 | 1 => Ok(edge_list(rng).1),
-        2..=4 => {
+    match rng.below(16) {
+        0 | 1 => made_for(edge_list(rng)),
+        2 | 3 => {
             let aim = rng.pick(&REFUSALS);
-            let damage = damaged(rng, aim);
-            let refused = reference::decode(&damage.bytes).err();
-            if refused != Some((damage.refusal, damage.place)) {
-                return Err(format!(
-                    "{} was made for {} at {}, and the reference says {refused:?}",
-                    hex(&damage.bytes),
-                    damage.refusal,
-                    damage.place
-                ));
-            }
             tally.count("damaged on purpose");
-            Ok(damage.bytes)
+            made_to_fail(damaged(rng, aim))
         }
-        5 | 6 => {
+        4 => {
             let bytes = edge_list(rng).1;
             Ok(mutated(rng, bytes))
         }
-        _ => Ok(random_bytes(rng)),
+        5..=7 => {
+            let bytes = random_bytes(rng);
+            tally.add(MADE[4], u64::from(bytes.first() == Some(&0x11)));
+            Ok(bytes)
+        }
+        8 => {
+            let mut bytes = any_list(rng, tally)?;
+            tally.count(MADE[5]);
+            other_opening(&mut bytes);
+            Ok(bytes)
+        }
+        _ => any_amendment_list(rng, tally),
+    }
+}
+
+/// An amendment list of any kind.
+fn any_amendment_list(rng: &mut Rng, tally: &mut Tally) -> Result<Vec<u8>, String> {
+    match rng.below(7) {
+        0 | 1 => {
+            tally.count(MADE[0]);
+            made_for(amendment_list(rng))
+        }
+        2..=4 => {
+            let aim = rng.pick(&AMENDMENT_REFUSALS);
+            tally.count(MADE[1]);
+            made_to_fail(damaged_amendments(rng, aim))
+        }
+        5 => {
+            let bytes = amendment_list(rng).1;
+            tally.count(MADE[2]);
+            Ok(mutated(rng, bytes))
+        }
+        _ => {
+            tally.count(MADE[3]);
+            Ok(random_amendment_list(rng))
+        }
+    }
+}
+
+/// The list of a graph, which the reference decodes to it.
+fn made_for((graph, list): (SignedGraph, Vec<u8>)) -> Result<Vec<u8>, String> {
+    if reference::decode(&list) == Ok(graph) {
+        Ok(list)
+    } else {
+        Err(format!(
+            "the reference decodes {} to another graph",
+            hex(&list)
+        ))
+    }
+}
+
+/// The damaged list, which the reference refuses as it was meant to be.
+fn made_to_fail(damage: Damage) -> Result<Vec<u8>, String> {
+    let refused = reference::decode(&damage.bytes).err();
+    if refused != Some((damage.refusal, damage.place)) {
+        return Err(format!(
+            "{} was made for {} at {}, and the reference says {refused:?}",
+            hex(&damage.bytes),
+            damage.refusal,
+            damage.place
+        ));
+    }
+    Ok(damage.bytes)
+}
+
+/// Changes the opening of a list, where it has one, to the other one.
+fn other_opening(list: &mut [u8]) {
+    if let Some(opening @ (0x10 | 0x11)) = list.first_mut() {
+        *opening ^= 1;
     }
 }
 
@@ -47,78 +117,13 @@ pub fn decode(seed: u64, amount: u64) -> Result<Tally, String> {
         let left = interface::decode(rng, &bytes, &graph, &answer);
         same(|| format!("decode {}", hex(&bytes)), left, &must)
     })?;
-    tally.each_refused(&REFUSALS)?;
-    tally.each_refused(&[101, 102])?;
-    tally.each_counted(&MASKED)?;
-    tally.each_counted(&MASKS)?;
-    tally.each_counted(&FAULTS.map(|(_, _, note)| note))?;
+    each_noted(&tally)?;
+    tally.each_counted(&MADE)?;
     Ok(tally)
 }
 
-/// Where accepted lists mask vertices, and what they mask; each has to come up.
-const MASKS: [&str; 4] = [
-    "masking before edges",
-    "masking between edges",
-    "masking behind edges",
-    "masking vertex 0x23",
-];
-
-/// Faults of masking that have to come up: the refusal, the operand where it matters, and how they are noted.
-const FAULTS: [(u64, Option<u8>, &str); 4] = [
-    (4, None, "ending inside 23"),
-    (5, None, "masking out of range"),
-    (5, Some(0xff), "masking 0xff"),
-    (15, None, "masking twice"),
-];
-
-/// Notes what decoding a list must leave.
-fn note_decoded(tally: &mut Tally, bytes: &[u8], must: &Outcome) {
-    tally.count_number(must.number);
-    if must.number == 0 {
-        let graph = graph_of(&must.graph);
-        count_masked(tally, &graph);
-        if graph.is_masked(0x23) {
-            tally.count(MASKS[3]);
-        }
-        note_masks(tally, &kinds_of_commands(bytes));
-    } else if must.number < 100 {
-        let fault = bytes.get(must.answer[0] as usize..).unwrap_or(&[]);
-        for (refusal, operand, note) in FAULTS {
-            let same = operand.is_none() || fault.get(1) == operand.as_ref();
-            if must.number == refusal && fault.first() == Some(&0x23) && same {
-                tally.count(note);
-            }
-        }
-    }
-}
-
-/// The command bytes of an accepted list, without opening and close.
-fn kinds_of_commands(list: &[u8]) -> Vec<u8> {
-    let mut kinds = Vec::new();
-    let mut rest = &list[2..];
-    while rest[0] != 0xff {
-        kinds.push(rest[0]);
-        rest = &rest[if rest[0] == 0x23 { 2 } else { 3 }..];
-    }
-    kinds
-}
-
-/// Notes where commands that mask stand among those that give edges.
-fn note_masks(tally: &mut Tally, kinds: &[u8]) {
-    let edge = |kind: &u8| *kind != 0x23;
-    let (first, last) = (kinds.iter().position(edge), kinds.iter().rposition(edge));
-    if let (Some(first), Some(last)) = (first, last) {
-        let masks = [&kinds[..first], &kinds[first..last], &kinds[last..]];
-        for (masks, note) in masks.iter().zip(MASKS) {
-            if masks.contains(&0x23) {
-                tally.count(note);
-            }
-        }
-    }
-}
-
 /// The longest canonical form.
-const LONGEST: usize = 6179;
+pub const LONGEST: usize = 6179;
 
 /// Calls on a graph with the longest form that have to come up: the bytes of room, and how they are noted.
 const ROOMS: [(usize, &str); 3] = [

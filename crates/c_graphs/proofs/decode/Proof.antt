@@ -1,7 +1,7 @@
 -- `c_graphs::decode` meets its contract. Assumes nothing.
 use mathlib.Core.Path.{refl, ap, _∙_}
 use borrow.Author.Needs.{needs}
-use Rattle.edge_list.specs.declared.Decoded.{Decoded}
+use Rattle.commands.specs.declared.Decoded.{Decoded}
 use Rattle.c_words.specs.Refusals.{unlessRefused}
 use Rattle.c_words.proofs.Graphs.{written-as}
 use Rattle.c_words.proofs.Refusals.{refuses, passes, both-long}

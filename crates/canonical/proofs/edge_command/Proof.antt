@@ -2,7 +2,7 @@
 use mathlib.Core.Path.{sym, ap, _∙_}
 use mathlib.Core.Bool.{Bool}
 use borrow.Author.Needs.{needs}
-use Rattle.edge_list.specs.Entries.{commandByte}
+use Rattle.commands.specs.Entries.{commandByte}
 use Rattle.canonical.specs.EdgeRows.{signBy}
 use Rattle.canonical.proofs.edge_command.Statement.{statement}
 use Rattle.canonical.proofs.edge_command.Tie as tie

@@ -11,7 +11,7 @@ use Rattle.vertex_set.specs.Buffers.{overwritten}
 use Rattle.vertex_set.proofs.Buffers.{Laid, laid-start, laid-as, laid-room, laid-long, piece-room, laid-piece, laid-store, laid-end}
 use Rattle.signed_graph.specs.declared.SignedGraph.{SignedGraph}
 use Rattle.signed_graph.proofs.Soundness.{to-sound}
-use Rattle.edge_list.specs.Entries.{entryBytes}
+use Rattle.commands.specs.Entries.{entryBytes}
 use Rattle.canonical.specs.Canonical.{orderedEdges, orderedMasks, orderedEntries, canonical}
 use Rattle.canonical.proofs.Rows.{bytes-parts}
 use Rattle.canonical.proofs.put_canonical.Statement.{statement}

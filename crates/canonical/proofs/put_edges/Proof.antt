@@ -7,7 +7,7 @@ use borrow.Author.Needs.{needs}
 use Rattle.vertex_set.specs.Sets.{size}
 use Rattle.vertex_set.proofs.Buffers.{Laid, laid-start, laid-as, laid-room, laid-long, piece-room, laid-piece, laid-length, laid-end}
 use Rattle.vertex_set.proofs.LowestVertex.{lowest-lt, rest-lt, size-rest}
-use Rattle.edge_list.specs.Entries.{entryBytes}
+use Rattle.commands.specs.Entries.{entryBytes}
 use Rattle.canonical.specs.EdgeRows.{edgesTo}
 use Rattle.canonical.proofs.Rows.{bytes-none, bytes-lowest}
 use Rattle.canonical.proofs.put_edges.Statement.{statement}

@@ -8,7 +8,7 @@ use borrow.Author.Needs.{needs}
 use Rattle.vertex_set.specs.Sets.{size, lowest}
 use Rattle.vertex_set.proofs.Buffers.{Laid, laid-start, laid-as, laid-room, laid-long, laid-store, laid-length, laid-end}
 use Rattle.vertex_set.proofs.LowestVertex.{lowest-lt, rest, rest-lt, size-rest}
-use Rattle.edge_list.specs.Entries.{entryBytes}
+use Rattle.commands.specs.Entries.{entryBytes}
 use Rattle.canonical.specs.Canonical.{masksOf}
 use Rattle.canonical.proofs.Rows.{masks-none, masks-lowest}
 use Rattle.canonical.proofs.put_masks.Statement.{statement}

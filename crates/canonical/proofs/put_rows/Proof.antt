@@ -6,7 +6,7 @@ use borrow.Author.Needs.{needs}
 use lib.ListN.{getD, length-append}
 use Rattle.vertex_set.proofs.Buffers.{Laid, laid-start, laid-as, laid-room, laid-long, piece-room, laid-piece, laid-length, laid-end}
 use Rattle.signed_graph.proofs.Soundness.{to-sound}
-use Rattle.edge_list.specs.Entries.{entryBytes}
+use Rattle.commands.specs.Entries.{entryBytes}
 use Rattle.canonical.specs.Canonical.{orderedEdges}
 use Rattle.canonical.specs.EdgeRows.{edgesTo}
 use Rattle.canonical.proofs.Rows.{edgesFrom, from-start, bytes-row, bytes-end}

@@ -4,10 +4,10 @@ use borrow.Author.Needs.{needs}
 use Rattle.signed_graph.specs.declared.Check.{Check}
 use Rattle.signed_graph.specs.Thresholds.{Threshold}
 use Rattle.signed_graph.specs.Calls.{checkOf}
-use Rattle.edge_list.specs.declared.Fault.{Fault}
-use Rattle.edge_list.specs.declared.Outcome.{Outcome}
-use Rattle.edge_list.specs.declared.Outcome.the-variants.{Accepted, Refused}
-use Rattle.edge_list.specs.declared.Decoded.{Decoded}
+use Rattle.commands.specs.declared.Fault.{Fault}
+use Rattle.commands.specs.declared.Outcome.{Outcome}
+use Rattle.commands.specs.declared.Outcome.the-variants.{Accepted, Refused}
+use Rattle.commands.specs.declared.Decoded.{Decoded}
 use Rattle.output.specs.declared.Answer.{Answer}
 use Rattle.output.specs.declared.Due.{Due}
 use Rattle.output.specs.Output.{listAnswer, callAnswer, answerBy, dueOf}

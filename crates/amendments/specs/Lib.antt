@@ -1,0 +1,4 @@
+pub mod Amendments
+pub mod Faults
+pub mod Acceptance
+pub mod Decoding

@@ -1,0 +1,5 @@
+pub mod Reading
+pub mod Entries
+pub mod Tables
+pub mod Graphs
+pub mod Steps
