@@ -1,6 +1,6 @@
 //! Cases of amendment lists worked out by hand, which hold the reference itself, and the library without the reference.
 
-use super::by_hand::A;
+use super::by_hand::{each_prints, A};
 use super::expect::words;
 use super::tally::{hex, hex_words};
 use crate::reference::*;
@@ -194,12 +194,5 @@ fn outputs() -> Result<(), String> {
         (0, vec![0x12, 0, 0xff], "refused 1 at 0\n"),
         (0, vec![0x10, 2, 0x24], "refused 3 at 2\n"),
     ];
-    for (k, list, must) in cases {
-        let input = [vec![k], list].concat();
-        let printed = program(&input);
-        if printed != must {
-            return Err(format!("{input:x?} prints {printed}"));
-        }
-    }
-    Ok(())
+    each_prints(cases)
 }

@@ -264,3 +264,15 @@ fn worked_counts(a: &SignedGraph) -> Result<(), String> {
     }
     Ok(())
 }
+
+/// Each threshold and list is answered by the program's reference with the output beside it.
+pub fn each_prints<const N: usize>(cases: [(u8, Vec<u8>, &str); N]) -> Result<(), String> {
+    for (k, list, must) in cases {
+        let input = [vec![k], list].concat();
+        let printed = program(&input);
+        if printed != must {
+            return Err(format!("{input:x?} prints {printed}"));
+        }
+    }
+    Ok(())
+}

@@ -1,6 +1,6 @@
 //! Cases with masked vertices worked out by hand, which hold the reference itself.
 
-use super::by_hand::A;
+use super::by_hand::{each_prints, A};
 use crate::reference::*;
 
 /// Checks the reference on all of them.
@@ -140,14 +140,7 @@ fn outputs() -> Result<(), String> {
         (0, twice.clone(), "refused 15 at 7\n"),
         (255, twice, "refused 15 at 7\n"),
     ];
-    for (k, list, must) in cases {
-        let input = [vec![k], list].concat();
-        let printed = program(&input);
-        if printed != must {
-            return Err(format!("{input:x?} prints {printed}"));
-        }
-    }
-    Ok(())
+    each_prints(cases)
 }
 
 fn verdicts() -> Result<(), String> {
