@@ -1,6 +1,6 @@
 -- What the commands of an amendment list (document 02, S-5: a correction book) say, and the graph that they make. Assumes nothing.
 use Rattle.std.specs.Prelude.{ℕ, ◌<◌, ◌≡◌, ◌≢◌, Bool, true, false, ◌&&◌, ◌||◌, List, [], ◌∷◌, ◌++◌, eqb}
-use Rattle.vertex_set.specs.Alternatives.{provided, ◌orElse◌}
+use Rattle.vertex_set.specs.Alternatives.{provided, ◌or_else◌}
 use Rattle.vertex_set.specs.Lists.{any}
 use Rattle.vertex_set.specs.Sets.{collect}
 use Rattle.bit_matrix.specs.Matrices.{table_of}

@@ -1,6 +1,6 @@
 -- Decoding an amendment list: left to right up to the first fault. Assumes nothing.
 use Rattle.std.specs.Prelude.{ℕ, zero, suc, List, [], ◌∷◌, ◌++◌, ltb, eqb, length, get_or, drop}
-use Rattle.vertex_set.specs.Alternatives.{provided, ◌orElse◌}
+use Rattle.vertex_set.specs.Alternatives.{provided, ◌or_else◌}
 use Rattle.commands.specs.declared.Sign.TheVariants.{Positive, Negative}
 use Rattle.commands.specs.declared.Fault.TheVariants.{TooManyVertices, Truncated, Unclosed}
 use Rattle.commands.specs.declared.Decoded.{Decoded}

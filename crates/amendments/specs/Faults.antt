@@ -1,6 +1,6 @@
 -- Why a command of an amendment list is refused. Assumes nothing.
 use Rattle.std.specs.Prelude.{ℕ, List, [], ◌∷◌, eqb}
-use Rattle.vertex_set.specs.Alternatives.{provided, ◌orElse◌}
+use Rattle.vertex_set.specs.Alternatives.{provided, ◌or_else◌}
 use Rattle.commands.specs.declared.Fault.{Fault}
 use Rattle.commands.specs.Entries.{earlier_of}
 use Rattle.commands.specs.Faults.{FaultAt}

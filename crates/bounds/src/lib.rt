@@ -10,14 +10,14 @@ ghost use Rattle.bounds.specs.Bounds.{AtMost, Picked, ColourClass, AtMostBy, all
 const TABLE_FUEL: u64 = 64;
 
 // Vertices for the left and for the right.
-#[derive(Drop)]
+#[derive(Clone, Copy)]
 struct Places {
     pub left: u64,
     pub right: u64,
 }
 
 // What a test found, and a count that goes on behind it: how often it may still branch, or how many nodes were visited in vain.
-#[derive(Drop)]
+#[derive(Clone, Copy)]
 pub struct Tested {
     pub holds: bool,
     pub count: u64,

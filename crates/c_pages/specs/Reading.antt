@@ -1,6 +1,6 @@
 -- What the caller of a page reads: the page that the number returned and the words of the answer tell. Assumes nothing.
 use Rattle.std.specs.Prelude.{ℕ, zero, suc, List, eqb, get_or}
-use Rattle.vertex_set.specs.Alternatives.{provided, ◌orElse◌}
+use Rattle.vertex_set.specs.Alternatives.{provided, ◌or_else◌}
 use Rattle.signed_graph.specs.declared.Check.{Check}
 use Rattle.signed_graph.specs.declared.Check.TheVariants.{Accepted, Refused}
 use Rattle.signed_graph.specs.declared.Refusal.TheVariants.{Unsound, ThresholdTooLarge, NoGroup, BufferTooShort, TooManySets}

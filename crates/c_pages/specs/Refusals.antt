@@ -1,7 +1,7 @@
 -- The refusals of a page by the interface itself: 101, 102, then 103. Assumes nothing.
 use Rattle.std.specs.Prelude.{ℕ, ltb}
 use Rattle.std.proofs.Math.Option.{Option}
-use Rattle.vertex_set.specs.Alternatives.{provided, ◌orElse◌}
+use Rattle.vertex_set.specs.Alternatives.{provided, ◌or_else◌}
 use Rattle.c_words.specs.Refusals.{short_graph, short_answer}
 
 -- 103: the kind of a bookmark is neither 0 nor 1

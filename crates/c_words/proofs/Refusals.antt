@@ -6,7 +6,7 @@ use mathlib.Core.Logic.{◌≢◌}
 use mathlib.Core.Bool.{Bool, true, false}
 use lib.Dec.{ltb, eqb}
 use borrow.Author.Tests.{eqb-true, eq-eqb, le-ltb, ltb-false, ne_eqb}
-use Rattle.vertex_set.specs.Alternatives.{◌orElse◌}
+use Rattle.vertex_set.specs.Alternatives.{◌or_else◌}
 use Rattle.vertex_set.proofs.Alternatives.{not_said}
 use Rattle.vertex_set.proofs.Booleans.{clash}
 use Rattle.c_words.specs.Graphs.{graph_words}

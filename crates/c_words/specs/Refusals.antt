@@ -1,7 +1,7 @@
 -- The refusals of the interface itself, by the lengths of arrays: 101, then 102, before those of the calls. Assumes nothing.
 use Rattle.std.specs.Prelude.{ℕ, true, false, List, ltb, eqb}
 use Rattle.std.proofs.Math.Option.{Option}
-use Rattle.vertex_set.specs.Alternatives.{provided, ◌orElse◌}
+use Rattle.vertex_set.specs.Alternatives.{provided, ◌or_else◌}
 use Rattle.vertex_set.specs.Buffers.{overwritten}
 use Rattle.c_words.specs.Graphs.{graph_words}
 

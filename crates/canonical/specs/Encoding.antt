@@ -1,6 +1,6 @@
 -- Encoding (document 01: the writer): its answer, and what it leaves in the buffer. Assumes nothing.
 use Rattle.std.specs.Prelude.{ℕ, not, List, ltb, length}
-use Rattle.vertex_set.specs.Alternatives.{provided, ◌orElse◌}
+use Rattle.vertex_set.specs.Alternatives.{provided, ◌or_else◌}
 use Rattle.vertex_set.specs.Buffers.{overwritten}
 use Rattle.signed_graph.specs.declared.SignedGraph.{SignedGraph}
 use Rattle.signed_graph.specs.declared.Refusal.TheVariants.{Unsound, BufferTooShort}

@@ -12,7 +12,7 @@ ghost use Rattle.canonical.specs.EdgeRows.{sign_by, edges_to};
 use signed_graph::{Refusal, SignedGraph};
 
 // The length of the canonical form that was written, or why none was.
-#[derive(Drop)]
+#[derive(Clone, Copy)]
 pub enum Encoded {
     Written(usize),
     Refused(Refusal),

@@ -7,7 +7,7 @@ use mathlib.Core.Logic.{◌≢◌, ◌⊎◌, inl, inr, ⊎_elim, ◌↔◌}
 use mathlib.Core.Bool.{true, false, not, ◌&&◌}
 use lib.Dec.{leb, ltb, eqb}
 use borrow.Author.Tests.{ltb-false, leb-true, le-leb, eqb-true, eqb-false, eq-eqb, ne_eqb, not-true, not-false}
-use Rattle.vertex_set.specs.Alternatives.{◌orElse◌}
+use Rattle.vertex_set.specs.Alternatives.{◌or_else◌}
 use Rattle.vertex_set.specs.Sets.{mem, Subset, insert, size, lowest}
 use Rattle.vertex_set.proofs.Alternatives.{applies, passes_by, first_of}
 use Rattle.vertex_set.proofs.Booleans.{clash, refute, cases, and_intro, and_left, and_right, or_left, or_right, or_cases}

@@ -12,7 +12,7 @@ use lib.ListN.{length, get_or, drop, length-drop, drop_of_length-le}
 use lib.Seq.{drop-cons, get_or-drop}
 use borrow.Author.Tests.{ltb-true, ltb-false, leb-true, le-leb, leb-false, eqb-true, eqb-false, lt-ltb, le-ltb, lt-leb, eq-eqb, ne_eqb}
 use Rattle.vertex_set.specs.Ranges.{gather}
-use Rattle.vertex_set.specs.Alternatives.{provided, ◌orElse◌}
+use Rattle.vertex_set.specs.Alternatives.{provided, ◌or_else◌}
 use Rattle.vertex_set.proofs.Booleans.{or_left, or_right, or_cases, neither_left, neither_right}
 use Rattle.vertex_set.proofs.Alternatives.{applies, passes_by, first_of}
 use Rattle.commands.specs.declared.Sign.{Sign}

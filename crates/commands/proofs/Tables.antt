@@ -11,7 +11,7 @@ use lib.Seq.{get_or-set_same, get_or-set_other}
 use lib.Bits.{or_lt, and_lt}
 use lib.Pow.{pow-lt}
 use borrow.Author.Tests.{eq-eqb, ne_eqb}
-use Rattle.vertex_set.specs.Alternatives.{provided, ◌orElse◌}
+use Rattle.vertex_set.specs.Alternatives.{provided, ◌or_else◌}
 use Rattle.vertex_set.specs.Sets.{mem, single, others}
 use Rattle.vertex_set.proofs.Booleans.{eqb_comm}
 use Rattle.vertex_set.proofs.Membership.{mem_minus}

@@ -1,6 +1,6 @@
 -- What one command of a list does, with the checks in document 01's order. Assumes nothing.
 use Rattle.std.specs.Prelude.{ℕ, suc, Bool, ◌||◌, List, leb, ltb, eqb, length, get_or}
-use Rattle.vertex_set.specs.Alternatives.{provided, ◌orElse◌}
+use Rattle.vertex_set.specs.Alternatives.{provided, ◌or_else◌}
 use Rattle.signed_graph.specs.declared.SignedGraph.{SignedGraph}
 use Rattle.signed_graph.specs.Graphs.{edgeless}
 use Rattle.commands.specs.declared.Sign.{Sign}

@@ -6,14 +6,14 @@ ghost use Rattle.commands.specs.Tables.{partners, masked_in, put_vertex, put_edg
 
 use signed_graph::SignedGraph;
 
-#[derive(Drop)]
+#[derive(Clone, Copy)]
 pub enum Sign {
     Positive,
     Negative,
 }
 
 // Why a list is refused, with the place of the byte where that is not the first.
-#[derive(Drop)]
+#[derive(Clone, Copy)]
 pub enum Fault {
     // It begins with neither 10 nor 11.
     NoOpening,
@@ -36,21 +36,21 @@ pub enum Fault {
     TrailingBytes(usize),
 }
 
-#[derive(Drop)]
+#[derive(Clone, Copy)]
 pub enum Outcome {
     Accepted,
     Refused(Fault),
 }
 
 // The graph of an accepted edge list; the graph of no vertices where it is refused.
-#[derive(Drop)]
+#[derive(Clone, Copy)]
 pub struct Decoded {
     pub outcome: Outcome,
     pub graph: SignedGraph,
 }
 
 // What a command does.
-#[derive(Drop)]
+#[derive(Clone, Copy)]
 pub enum Step {
     Edge(Sign, usize, usize),
     Mask(usize),

@@ -5,7 +5,7 @@ use mathlib.Core.Bool.{Bool, not}
 use mathlib.Core.List.{List, [], ◌∷◌, map}
 use lib.Dec.{leb, ltb}
 use lib.ListN.{length, replicate}
-use Rattle.vertex_set.specs.Alternatives.{provided, ◌orElse◌}
+use Rattle.vertex_set.specs.Alternatives.{provided, ◌or_else◌}
 use Rattle.vertex_set.specs.Lists.{select}
 use Rattle.vertex_set.specs.Order.{choices, subsets}
 use Rattle.vertex_set.specs.Ranges as R

@@ -1,6 +1,6 @@
 -- What the call for counts answers and leaves in its buffer, refusals included. Assumes nothing.
 use Rattle.std.specs.Prelude.{ℕ, Bool, not, List, map, leb, ltb, length}
-use Rattle.vertex_set.specs.Alternatives.{provided, ◌orElse◌}
+use Rattle.vertex_set.specs.Alternatives.{provided, ◌or_else◌}
 use Rattle.vertex_set.specs.Buffers.{overwritten}
 use Rattle.signed_graph.specs.declared.SignedGraph.{SignedGraph}
 use Rattle.signed_graph.specs.declared.Refusal.TheVariants.{BufferTooShort, TooManySets}

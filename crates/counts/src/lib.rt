@@ -25,7 +25,7 @@ const PAGE_RECORDS: usize = 1024;
 const PAGE: usize = group_pages::RECORD_BYTES * PAGE_RECORDS;
 
 // What the call answers.
-#[derive(Drop)]
+#[derive(Clone, Copy)]
 pub enum Counting {
     Counted,
     Refused(Refusal),

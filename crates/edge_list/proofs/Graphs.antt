@@ -4,7 +4,7 @@ use mathlib.Core.Path.{◌≡◌, refl, sym, ap, ap₂, ◌∙◌, fun_ext}
 use mathlib.Core.Bool.{Bool, true, false, ◌||◌, or-false}
 use mathlib.Core.List.{List, [], ◌∷◌, ◌++◌}
 use lib.ListN.{get_or}
-use Rattle.vertex_set.specs.Alternatives.{provided, ◌orElse◌}
+use Rattle.vertex_set.specs.Alternatives.{provided, ◌or_else◌}
 use Rattle.vertex_set.specs.Lists.{any}
 use Rattle.vertex_set.specs.Sets.{mem, insert, collect}
 use Rattle.vertex_set.proofs.Lists.{any_snoc}

@@ -24,7 +24,7 @@ pub fn record_at(listing: &[u8], i: u64) -> &[u8]
 }
 
 // The sides of a group, as its record has them.
-#[derive(Drop)]
+#[derive(Clone, Copy)]
 pub struct RecordSides {
     pub left: u64,
     pub right: u64,

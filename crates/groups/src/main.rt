@@ -18,14 +18,14 @@ use requests::Request;
 use signed_graph::SignedGraph;
 
 // A page, and whether all its lines were printed.
-#[derive(Drop)]
+#[derive(Clone, Copy)]
 struct PrintedPage {
     page: Page,
     is_whole: bool,
 }
 
 // How far the groups were printed.
-#[derive(Drop)]
+#[derive(Clone, Copy)]
 enum Printed {
     // All of them, so many.
     All(u64),
@@ -34,7 +34,7 @@ enum Printed {
 }
 
 // What is to be printed behind the groups.
-#[derive(Drop)]
+#[derive(Clone, Copy)]
 enum Remaining {
     Lines(Closing),
     // Nothing more: a write failed.

@@ -18,7 +18,7 @@ use nodes::Node;
 use signed_graph::{Check, Refusal, SignedGraph};
 
 // The sides of the largest group; both are empty where the call is refused, as it is where there is no group.
-#[derive(Drop)]
+#[derive(Clone, Copy)]
 pub struct LargestGroup {
     pub outcome: Check,
     pub left: u64,
@@ -26,7 +26,7 @@ pub struct LargestGroup {
 }
 
 // The largest group met so far; of size 1 where none was, since every group is larger.
-#[derive(Drop)]
+#[derive(Clone, Copy)]
 struct Best {
     pub size: u64,
     pub left: u64,
@@ -104,7 +104,7 @@ fn none_larger<'a>(
 }
 
 // The largest group met so far, and how many nodes count as visited in vain since.
-#[derive(Drop)]
+#[derive(Clone, Copy)]
 struct Hunt {
     pub best: Best,
     pub idle: u64,

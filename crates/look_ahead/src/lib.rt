@@ -20,7 +20,7 @@ const OVER_ALL: u64 = 65;
 const NO_BOUND: u64 = 128;
 
 // The fewest candidates that a vertex that was left out does not fit beside, how many they are, and whether there are none.
-#[derive(Drop)]
+#[derive(Clone, Copy)]
 struct Fewest {
     pub none: bool,
     pub count: u64,

@@ -7,7 +7,7 @@ ghost use Rattle.nodes.specs.Nodes.{Conflicts, node_of, narrowed, side_with, pas
 
 // A side of the groups that a node of the search stands for: the vertices that all of them hold, those that are undecided and
 // may still join it, and those left out that would still fit.
-#[derive(Drop)]
+#[derive(Clone, Copy)]
 pub struct Side {
     pub chosen: u64,
     pub candidates: u64,
@@ -15,7 +15,7 @@ pub struct Side {
 }
 
 // A node of the search.
-#[derive(Drop)]
+#[derive(Clone, Copy)]
 pub struct Node {
     pub left: Side,
     pub right: Side,

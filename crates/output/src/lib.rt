@@ -9,14 +9,14 @@ use report::Line;
 use signed_graph::{Check, Refusal, SignedGraph};
 
 // Whether an input is refused, and with which line.
-#[derive(Drop)]
+#[derive(Clone, Copy)]
 pub enum Answer {
     Refused(Line),
     Groups,
 }
 
 // What is due for an input: a refusal, or the groups of a graph for a threshold.
-#[derive(Drop)]
+#[derive(Clone, Copy)]
 pub struct Due {
     pub answer: Answer,
     pub graph: SignedGraph,
@@ -24,7 +24,7 @@ pub struct Due {
 }
 
 // The lines behind the groups.
-#[derive(Drop)]
+#[derive(Clone, Copy)]
 pub enum Closing {
     // The line of a refusal, alone.
     Refused(Line),

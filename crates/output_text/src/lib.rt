@@ -26,7 +26,7 @@ pub const PAGE_TEXT: usize = PAGE_RECORDS * report::LONGEST;
 pub const CLOSING_TEXT: usize = 2 * report::LONGEST;
 
 // A page, and how many bytes its lines take.
-#[derive(Drop)]
+#[derive(Clone, Copy)]
 pub struct PageText {
     pub page: Page,
     pub length: usize,

@@ -7,21 +7,21 @@ ghost use Rattle.pages.specs.Filling.{Past, mark_after, end_at, page_at};
 use signed_graph::Check;
 
 // Where a page starts: at the first item, or after a set in listing order.
-#[derive(Drop)]
+#[derive(Clone, Copy)]
 pub enum Bookmark {
     Start,
     After(u64),
 }
 
 // Whether items are due behind a page.
-#[derive(Drop)]
+#[derive(Clone, Copy)]
 pub enum End {
     Finished,
     More,
 }
 
 // How many records a page wrote, and where the next one starts.
-#[derive(Drop)]
+#[derive(Clone, Copy)]
 pub struct Page {
     pub outcome: Check,
     pub count: usize,
@@ -31,7 +31,7 @@ pub struct Page {
 
 // A page that is being filled: how many records it has, the set of the last, and whether a due item had no place. `idle` is a count
 // that a search carries along with the page, and no part of it.
-#[derive(Drop)]
+#[derive(Clone, Copy)]
 pub struct Tally {
     pub count: usize,
     pub last: u64,

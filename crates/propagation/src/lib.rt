@@ -9,7 +9,7 @@ use nodes::Node;
 
 // Vertices that fit on a side, and vertices that fit on the other; and as a hint where to look, of which nothing is promised, those
 // that fit beside all candidates but one at most.
-#[derive(Drop)]
+#[derive(Clone, Copy)]
 struct Fitting {
     pub near: u64,
     pub far: u64,
@@ -18,7 +18,7 @@ struct Fitting {
 }
 
 // The node that stands for the same groups, unless there are none; and whether vertices went in.
-#[derive(Drop)]
+#[derive(Clone, Copy)]
 pub struct Progress {
     pub barren: bool,
     pub moved: bool,

@@ -2,7 +2,7 @@
 ghost use Rattle.std.specs.Prelude.{◌≡◌};
 ghost use Rattle.requests.specs.Requests.{same_bytes, requested};
 
-#[derive(Drop)]
+#[derive(Clone, Copy)]
 pub enum Request {
     // The groups of standard input.
     Groups,
