@@ -1,4 +1,6 @@
 // Amendment lists: a graph as bytes, with corrections behind what was given. `decode_amendments` reads one.
+#![tactic(auto)]
+
 ghost use Rattle.std.specs.Prelude.{◌≡◌, [], ◌∷◌, ◌+◌, ◌^◌, ◌≤◌, ◌<◌, length, drop};
 ghost use Rattle.commands.specs.Entries.{given, earlier_of};
 ghost use Rattle.commands.specs.Steps.{edge_step, command_step};

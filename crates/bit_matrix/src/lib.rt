@@ -1,4 +1,6 @@
 // Tables of 64 rows of 64 columns, a row a u64 number; rows and columns exchanged.
+#![tactic(auto)]
+
 ghost use Rattle.std.specs.Prelude.{◌≡◌, ◌+◌, ◌*◌, ◌≤◌, ◌<◌, length};
 ghost use Rattle.bit_matrix.specs.Matrices.{transposed};
 ghost use Rattle.bit_matrix.specs.Transposition.{RowsExchanged, zero_columns, digit_exchanged};

@@ -1,4 +1,6 @@
 // Bounds on the size of the balanced sets that keep their sides within given vertices.
+#![tactic(auto)]
+
 ghost use Rattle.std.specs.Prelude.{◌≡◌, true, false, ◌≤◌, ◌+◌, ◌<◌, ◌≢◌};
 ghost use Rattle.std.specs.Int.Bits.{bit_or};
 ghost use Rattle.signed_graph.specs.Tables.{ForSound};

@@ -1,4 +1,6 @@
 // The calls about graphs on arrays: a new graph, the checks, lists, the reduction.
+#![tactic(auto)]
+
 ghost use Rattle.std.specs.Prelude.{◌≡◌, min};
 ghost use Rattle.c_graphs.specs.Calls.{new_returns, new_graph, check_sound_returns, check_call_returns, decode_returns, decode_graph, decode_answer, encode_returns, encode_buffer, encode_answer, reduce_returns, reduce_graph, reduce_answer};
 

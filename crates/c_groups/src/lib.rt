@@ -1,4 +1,6 @@
 // The calls about groups on arrays: what a set is, the largest group, and in how many groups sets lie.
+#![tactic(auto)]
+
 ghost use Rattle.std.specs.Prelude.{◌≡◌};
 ghost use Rattle.clique.specs.Verdicts.{classified_number};
 ghost use Rattle.c_groups.specs.Answers.{verdict_words, classified_words};

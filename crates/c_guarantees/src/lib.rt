@@ -1,5 +1,7 @@
 // The C calls that demand 3 speaks of. Each does what the call of its name does, and ensures what the theorem on arrays asks of it.
 // Nothing calls them: they tie the theorem to the calls.
+#![tactic(auto)]
+
 ghost use Rattle.std.specs.Prelude.{◌≡◌, List, ℕ};
 ghost use Rattle.pages.specs.declared.Bookmark.{Bookmark};
 ghost use Rattle.c_groups.specs.Calls.{largest_returns, largest_answer};

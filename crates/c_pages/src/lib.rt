@@ -1,4 +1,6 @@
 // The calls about the listing on arrays: its pages, and the records of a listing.
+#![tactic(auto)]
+
 ghost use Rattle.std.specs.Prelude.{◌≡◌, length};
 ghost use Rattle.group_pages.specs.Records.{record_at};
 ghost use Rattle.c_pages.specs.Refusals.{page_refusal};

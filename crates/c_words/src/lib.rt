@@ -1,4 +1,6 @@
 // A graph as words of an array, and the refusals of arrays that are too short.
+#![tactic(auto)]
+
 ghost use Rattle.std.specs.Prelude.{◌≡◌, ◌≤◌, length};
 ghost use Rattle.vertex_set.specs.Buffers.{overwritten};
 ghost use Rattle.c_words.specs.Graphs.{graph_words, words_of, graph_at};

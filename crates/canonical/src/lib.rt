@@ -1,4 +1,6 @@
 // The canonical form of a graph as an edge list: `encode` writes it.
+#![tactic(auto)]
+
 ghost use Rattle.std.specs.Prelude.{◌≡◌, true, [], ◌∷◌, ◌≤◌, ◌<◌, length};
 ghost use Rattle.vertex_set.specs.Buffers.{overwritten};
 ghost use Rattle.vertex_set.specs.Sets.{mem};

@@ -1,4 +1,6 @@
 // One command of a list that gives a graph: what it does, and why it is refused.
+#![tactic(auto)]
+
 ghost use Rattle.std.specs.Prelude.{◌≡◌, ◌≤◌, ◌<◌};
 ghost use Rattle.commands.specs.Faults as faults;
 ghost use Rattle.commands.specs.Steps.{refused, edge_step, mask_step};

@@ -1,4 +1,6 @@
 // In how many groups sets of vertices lie, for many sets in one walk of the listing.
+#![tactic(auto)]
+
 ghost use Rattle.std.specs.Prelude.{◌≡◌, ◌/◌, ◌≤◌, length, take, replicate};
 ghost use mathlib.Core.List.{map, foldl};
 ghost use Rattle.vertex_set.specs.Buffers.{overwritten};

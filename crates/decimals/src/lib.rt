@@ -1,4 +1,6 @@
 // Decimals: numbers and sets of vertices as text, written to the front of a buffer.
+#![tactic(auto)]
+
 ghost use Rattle.std.specs.Prelude.{◌≡◌, ◌≤◌, length};
 ghost use Rattle.vertex_set.specs.Buffers.{overwritten};
 ghost use Rattle.decimals.specs.Decimals.{decimal, between, members_between};

@@ -1,4 +1,6 @@
 // Pages of groups: a group's record, a page with one more of them, and a record of a listing, as bytes and as sides.
+#![tactic(auto)]
+
 ghost use Rattle.std.specs.Prelude.{◌≡◌, [], ◌∷◌, ◌++◌, ◌≤◌, length, drop};
 ghost use Rattle.std.specs.Int.Bits.{bit_or};
 ghost use Rattle.group_pages.specs.Filling.{AddsGroups};

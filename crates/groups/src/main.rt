@@ -1,5 +1,7 @@
 // Prints the groups of a graph, the largest of them, and how many there are. Standard input has the threshold, one byte, and
 // then an edge list or an amendment list of the graph. After a write that fails nothing more is printed.
+#![tactic(auto)]
+
 mod streams;
 mod usage;
 

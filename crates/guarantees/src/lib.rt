@@ -1,5 +1,7 @@
 // The calls that demand 3 speaks of. Each does what the call of its name does, and ensures what the theorem asks of it. Nothing
 // calls them: they tie the theorem to the calls.
+#![tactic(auto)]
+
 ghost use Rattle.std.specs.Prelude.{◌≡◌};
 ghost use Rattle.commands.specs.declared.Outcome.TheVariants as outcome;
 ghost use Rattle.commands.specs.Steps.{accepted};

@@ -1,4 +1,6 @@
 // The largest group of a graph.
+#![tactic(auto)]
+
 ghost use Rattle.std.specs.Prelude.{◌≡◌, true};
 ghost use Rattle.std.specs.Int.Bits.{bit_or};
 ghost use Rattle.signed_graph.specs.Soundness.{sound};

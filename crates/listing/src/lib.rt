@@ -1,4 +1,6 @@
 // The groups of a graph by pages, in listing order.
+#![tactic(auto)]
+
 ghost use Rattle.std.specs.Prelude.{◌≡◌, true, length};
 ghost use Rattle.signed_graph.specs.Soundness.{sound};
 ghost use Rattle.signed_graph.specs.Calls.{check_number, refusal_number};

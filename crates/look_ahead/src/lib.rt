@@ -1,4 +1,6 @@
 // Looking ahead: tests, made where a search has been in vain for a while, whether a branch has no group.
+#![tactic(auto)]
+
 ghost use Rattle.std.specs.Prelude.{◌≡◌, true};
 ghost use Rattle.signed_graph.specs.Tables.{ForSound};
 ghost use Rattle.nodes.specs.Nodes.{StaysShort};

@@ -1,4 +1,6 @@
 // The library for C, C++ and Rust: each call of the finder on numbers and slices, under its C name. include/mastpickle.h says how it is used.
+#![tactic(auto)]
+
 ghost use Rattle.std.specs.Prelude.{◌≡◌};
 ghost use Rattle.group_pages.specs.Records.{record_at};
 ghost use Rattle.c_graphs.specs.Calls.{new_returns, new_graph, check_sound_returns, check_call_returns, decode_returns, decode_graph, decode_answer, encode_returns, encode_buffer, encode_answer, reduce_returns, reduce_graph, reduce_answer};

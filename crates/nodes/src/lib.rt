@@ -1,4 +1,6 @@
 // Nodes of the search for groups: the sides so far, and how they grow.
+#![tactic(auto)]
+
 ghost use Rattle.std.specs.Prelude.{◌≡◌, true};
 ghost use Rattle.nodes.specs.Nodes as nodes;
 ghost use Rattle.signed_graph.specs.Graphs.{vertices};

@@ -1,4 +1,6 @@
 // What the program `groups` has to print for an input.
+#![tactic(auto)]
+
 ghost use Rattle.std.specs.Prelude.{◌≡◌};
 ghost use Rattle.edge_list.specs.Decoding.{decoded};
 ghost use Rattle.largest.specs.Largest.{largest_group};

@@ -1,4 +1,6 @@
 // What the program `groups` prints, as text: a page of groups at a time, and the lines behind them.
+#![tactic(auto)]
+
 ghost use Rattle.std.specs.Prelude.{◌≡◌, ◌*◌, ◌/◌, ◌≤◌, length, take};
 ghost use Rattle.vertex_set.specs.Buffers.{overwritten};
 ghost use Rattle.group_pages.specs.Calls.{page_of};

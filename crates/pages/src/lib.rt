@@ -1,4 +1,6 @@
 // Pages of any items: bookmarks, what is due at one, and a page that is being filled.
+#![tactic(auto)]
+
 ghost use Rattle.std.specs.Prelude.{◌≡◌, true};
 ghost use Rattle.pages.specs.Answers.{end_number, mark_kind, mark_set, page_values};
 ghost use Rattle.pages.specs.Pages.{due_at};

@@ -1,4 +1,6 @@
 // Propagation: what every group below a node holds goes in at once, and a node below which no group is gets seen.
+#![tactic(auto)]
+
 ghost use Rattle.std.specs.Prelude.{◌≡◌};
 ghost use Rattle.vertex_set.specs.Sets.{Subset};
 ghost use Rattle.nodes.specs.Nodes as nodes;

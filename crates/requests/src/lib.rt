@@ -1,4 +1,6 @@
 // What the arguments of the program ask for.
+#![tactic(auto)]
+
 ghost use Rattle.std.specs.Prelude.{◌≡◌};
 ghost use Rattle.requests.specs.Requests.{same_bytes, requested};
 

@@ -1,6 +1,7 @@
 // Sets of at most 64 vertices as u64 numbers: bit p says whether vertex p is in the set.
 // `&`, `|`, `^` and `& !` are intersection, union, what only one has, and difference; `s & (s - 1)` is s without its lowest vertex.
 #![tactic(auto)]
+
 ghost use Rattle.std.specs.Prelude.{◌≡◌, leb};
 ghost use Rattle.vertex_set.specs.Sets.{mem, size, lowest, single, below, SoleMember};
 ghost use Rattle.vertex_set.specs.Order.{precedes};

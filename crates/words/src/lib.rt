@@ -1,4 +1,6 @@
 // Words: numbers of 64 bits as 8 bytes, low byte first.
+#![tactic(auto)]
+
 ghost use Rattle.std.specs.Prelude.{◌≡◌, ◌++◌, ◌≤◌, length, take, drop};
 ghost use Rattle.words.specs.Words.{word_bytes, word_value};
 
