@@ -40,7 +40,7 @@ module _ (c : After-slice_known-4-1) where
   s = p1.before.before.before.before
 
   abbrev g : SignedGraph
-  g = s.args.t1
+  g = s.args.g
 
   positives : length g.positive ≡ 64
   positives = sym (length-map g.positive (λ (v : ℕ). v)) ∙ s.good.0.1.1.1.1.0.1.0.1

@@ -14,7 +14,7 @@ use Rattle.canonical.proofs.put_rows.Goals as goal
 
 pub loop-p-init : goal.loop-p-init
 loop-p-init c =
-    let g = c.args.t1 in
+    let g = c.args.g in
     ((to_sound g c.requires.0).small, laid_as (ap entry_bytes (from_start g)) (laid_start (entry_bytes (ordered_edges g)) c.args.out.now c.requires.1))
 
 pub slice_bounds-put_edges-count : goal.slice_bounds-put_edges-count
@@ -26,7 +26,7 @@ slice_bounds-put_edges-start c = let l = c.loop-p in omega (arith, laid_room l.i
 pub put_edges-written-requires : goal.put_edges-written-requires
 put_edges-written-requires c =
     let l = c.loop-p in
-    let g = c.args.t1 in
+    let g = c.args.g in
     let x = c.members_above-above in
     let row = bytes_row g (to_sound g c.requires.0) l.p c.loop-p-test.true x.result x.ensures in
     (omega arith, piece_room (entry_bytes (edges_to (get_or g.positive l.p 0) x.result l.p)) _ (laid_as row l.invariant.1))
@@ -34,7 +34,7 @@ put_edges-written-requires c =
 pub overflow_add-at : goal.overflow_add-at
 overflow_add-at c =
     let l = c.loop-p in
-    let g = c.args.t1 in
+    let g = c.args.g in
     let x = c.members_above-above in
     let row = bytes_row g (to_sound g c.requires.0) l.p c.loop-p-test.true x.result x.ensures in
     omega (
@@ -47,7 +47,7 @@ overflow_add-at c =
 pub loop-p-preserved : goal.loop-p-preserved
 loop-p-preserved c =
     let l = c.loop-p in
-    let g = c.args.t1 in
+    let g = c.args.g in
     let x = c.members_above-above in
     let r = c.put_edges-written in
     let row = bytes_row g (to_sound g c.requires.0) l.p c.loop-p-test.true x.result x.ensures in (
@@ -62,5 +62,5 @@ shape_of-out c = laid_long c.loop-p.invariant.1
 pub returns : goal.returns
 returns c =
     let l = c.loop-p in
-    let e = laid_as (bytes_end c.args.t1 l.p c.loop-p-test.false) l.invariant.1 in
+    let e = laid_as (bytes_end c.args.g l.p c.loop-p-test.false) l.invariant.1 in
     (laid_length e, laid_end e)

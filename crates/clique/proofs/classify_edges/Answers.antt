@@ -12,7 +12,7 @@ use Rattle.clique.proofs.MissingEdges.{known_64, edges_step, edges_complete, say
 use Rattle.clique.proofs.classify_edges.Goals as goal
 
 pub loop-left-init : goal.loop-left-init
-loop-left-init c = run_begin c.args.s c.args.t1.n (lacks_edge c.args.t1 c.args.s) (known_64 c.requires)
+loop-left-init c = run_begin c.args.s c.args.g.n (lacks_edge c.args.g c.args.s) (known_64 c.requires)
 
 pub offset_bounds-g-p : goal.offset_bounds-g-p
 offset_bounds-g-p c = omega (arith, c.lowest-p.ensures, lowest_lt _ (search rules) c.loop-left.invariant.traversal.fits)

@@ -15,7 +15,7 @@ returns-then-joins-ne0 c =
     let v = c.args in
     let some : 0 < bit_or j1.result j2.result = search rules in
     ap Extensible c.lowest.ensures
-    ∙ sym (says_extensible v.t1 v.s v.l v.r c.requires _ j1.result j2.result
+    ∙ sym (says_extensible v.g v.s v.l v.r c.requires _ j1.result j2.result
     (ap (λ (x : ℕ). bit_and x ((2 ^ 64 - 1) - v.s)) be.ensures) j1.ensures j2.ensures some)
 
 pub returns : goal.returns
@@ -24,5 +24,5 @@ returns c =
     let j1 = c.joining-joins_left in
     let be = c.vertices in
     let v = c.args in
-    sym (says_group v.t1 v.s v.l v.r c.requires _ j1.result j2.result
+    sym (says_group v.g v.s v.l v.r c.requires _ j1.result j2.result
     (ap (λ (x : ℕ). bit_and x ((2 ^ 64 - 1) - v.s)) be.ensures) j1.ensures j2.ensures c.if-joins-ne0.false)

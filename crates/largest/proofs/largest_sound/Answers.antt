@@ -5,10 +5,10 @@ use Rattle.largest.proofs.largest_sound.Goals as goal
 
 pub returns-then-best-eq1 : goal.returns-then-best-eq1
 returns-then-best-eq1 c =
-    largest_none c.args.t1 _ c.requires c.root-root.result _ c.vertices-all.ensures c.size_table-table.result _ (c.root-root.ensures c.args.t1 c.requires c.vertices-all.ensures)
+    largest_none c.args.g _ c.requires c.root-root.result _ c.vertices-all.ensures c.size_table-table.result _ (c.root-root.ensures c.args.g c.requires c.vertices-all.ensures)
     c.size_table-table.ensures c.largest_below-hunt.ensures c.if-best-eq1.true
 
 pub returns : goal.returns
 returns c =
-    largest_some c.args.t1 _ c.requires c.root-root.result _ c.vertices-all.ensures c.size_table-table.result _ (c.root-root.ensures c.args.t1 c.requires c.vertices-all.ensures)
+    largest_some c.args.g _ c.requires c.root-root.result _ c.vertices-all.ensures c.size_table-table.result _ (c.root-root.ensures c.args.g c.requires c.vertices-all.ensures)
     c.size_table-table.ensures c.largest_below-hunt.ensures c.if-best-eq1.false

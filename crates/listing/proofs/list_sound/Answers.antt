@@ -5,5 +5,5 @@ use Rattle.listing.proofs.list_sound.Goals as goal
 
 pub returns : goal.returns
 returns c =
-    lists_all c.args.t1 _ _ _ c.root-root.result c.list_below-tally.result _ _ c.requires (c.root-root.ensures c.args.t1 c.requires c.vertices-all.ensures)
+    lists_all c.args.g _ _ _ c.root-root.result c.list_below-tally.result _ _ c.requires (c.root-root.ensures c.args.g c.requires c.vertices-all.ensures)
     c.list_below-tally.ensures c.page_at.ensures

@@ -12,8 +12,8 @@ use Rattle.reduction.proofs.looks_of.Goals as goal
 
 pub loop-left-init : goal.loop-left-init
 loop-left-init c =
-    subst (Counting c.args.t1 c.args.look c.args.look) (sym c.size-total.ensures)
-    (counting_begin c.args.t1 c.args.look (to_sound c.args.t1 c.requires) c.ranges.look.fits)
+    subst (Counting c.args.g c.args.look c.args.look) (sym c.size-total.ensures)
+    (counting_begin c.args.g c.args.look (to_sound c.args.g c.requires) c.ranges.look.fits)
 
 pub offset_bounds-g-p : goal.offset_bounds-g-p
 offset_bounds-g-p c = omega (arith, c.lowest-p.ensures, lowest_lt _ (search rules) c.loop-left.invariant.traversal.fits)
@@ -30,7 +30,7 @@ bounds-g-p-in-loop-left c = omega (arith, c.lowest-p.ensures, lowest_lt _ (searc
 pub overflow_add-total : goal.overflow_add-total
 overflow_add-total c =
     let a = c.args in
-    omega (arith, (loop-again (goal.at.overflow_add-total c).After-size-total-in-loop-left).adds, looks_at_most a.t1 a.look)
+    omega (arith, (loop-again (goal.at.overflow_add-total c).After-size-total-in-loop-left).adds, looks_at_most a.g a.look)
 
 pub loop-left-smaller : goal.loop-left-smaller
 loop-left-smaller c = omega (arith, size_rest _ (search rules) c.loop-left.invariant.traversal.fits)

@@ -6,4 +6,4 @@ use Rattle.reduction.proofs.without_masked.Goals as goal
 
 pub returns : goal.returns
 returns c =
-    unmasked_made c.args.t1 (to_sound _ c.requires) _ _ c.able_table-positive.ensures c.able_table-negative.ensures
+    unmasked_made c.args.g (to_sound _ c.requires) _ _ c.able_table-positive.ensures c.able_table-negative.ensures

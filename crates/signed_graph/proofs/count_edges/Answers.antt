@@ -9,18 +9,18 @@ use Rattle.signed_graph.proofs.EdgeCounts.{lower_to, lower_none, lower_more, low
 use Rattle.signed_graph.proofs.count_edges.Goals as goal
 
 pub loop-p-init : goal.loop-p-init
-loop-p-init c = (omega arith, sym (lower_none c.args.t1))
+loop-p-init c = (omega arith, sym (lower_none c.args.g))
 
 pub overflow_add-count : goal.overflow_add-count
 overflow_add-count c =
     let l = c.loop-p in
-    let g = c.args.t1 in
+    let g = c.args.g in
     omega (arith, l.invariant.1, lower_few g l.p, c.size.ensures, size_64 c.members_above-above.result)
 
 pub loop-p-preserved : goal.loop-p-preserved
 loop-p-preserved c =
     let l = c.loop-p in
-    let g = c.args.t1 in (
+    let g = c.args.g in (
       omega arith,
       ap₂ (λ (x y : ℕ). x + y) l.invariant.1 (c.size.ensures ∙ ap size c.members_above-above.ensures) ∙ sym (lower_more g l.p),
     )
@@ -28,6 +28,6 @@ loop-p-preserved c =
 pub returns : goal.returns
 returns c =
     let l = c.loop-p in
-    let g = c.args.t1 in
+    let g = c.args.g in
     let e : l.p ≡ 64 = omega arith in
     l.invariant.1 ∙ ap (lower_to g) e ∙ lower_all g

@@ -12,7 +12,7 @@ use Rattle.signed_graph.proofs.is_sound.Goals.{After-below-top}
 -- what is known before the masked vertices are looked at
 module _ (c : After-below-top) where
   abbrev g : SignedGraph
-  g = c.args.t1
+  g = c.args.g
 
   small : g.n ≤ 64
   small = c.if-n-gt-MOST_VERTICES.false
@@ -27,7 +27,7 @@ module _ (c : After-below-top) where
   top = c.below-top.ensures ∙ below_pow g.n small
 
 pub returns-then-n-gt-MOST_VERTICES : goal.returns-then-n-gt-MOST_VERTICES
-returns-then-n-gt-MOST_VERTICES c = sym (too_many c.args.t1 c.if-n-gt-MOST_VERTICES.true)
+returns-then-n-gt-MOST_VERTICES c = sym (too_many c.args.g c.if-n-gt-MOST_VERTICES.true)
 
 pub returns-then-top-g : goal.returns-then-top-g
 returns-then-top-g c =

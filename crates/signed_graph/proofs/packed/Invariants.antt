@@ -9,7 +9,7 @@ use Rattle.signed_graph.specs.Rows.{packs, packed_row, packed}
 use Rattle.signed_graph.proofs.packed.Given as goal
 
 abbrev pub invariant-loop-p : goal.invariant-loop-p
-invariant-loop-p l = (l.p ≤ 64) × (Filled (λ l.p. packs (get_or l.upper l.p 0) (get_or l.lower l.p 0) l.p) l.p l.rows)
+invariant-loop-p l = (l.p ≤ 64) × (Filled (λ p. packs (get_or l.upper p 0) (get_or l.lower p 0) p) l.p l.rows)
 
 abbrev pub decreases-loop-p : goal.decreases-loop-p
 decreases-loop-p l = 64 - l.p
