@@ -1,14 +1,12 @@
 -- `c_words::put_graph` meets its contract. n, then the positive rows, then the negative ones, then the masked set. Assumes nothing.
-use Prim.Native.Nat.{ℕ, ◌+◌, ◌-◌, ◌≤◌}
+use Prim.Native.Nat.{ℕ, ◌-◌, ◌≤◌}
 use native.Mathlib.Omega.{arith}
-use mathlib.Core.Path.{◌≡◌, refl, sym, ◌∙◌}
+use mathlib.Core.Path.{◌≡◌, refl, sym}
 use mathlib.Core.List.{List, [], ◌∷◌, ◌++◌}
-use lib.ListN.{length, take, drop, set, length-append, length-map}
-use borrow.Author.Rules.{rules}
+use lib.ListN.{length, take, drop, set, length-append}
 use borrow.Rule.Slice.PartMut.{put_mid}
-use Rattle.vertex_set.proofs.Buffers.{Laid, laid_first, laid_room, laid_long, laid_piece, laid_store, laid_end}
-use Rattle.signed_graph.specs.declared.SignedGraph.{SignedGraph}
-use Rattle.c_words.specs.Graphs.{graph_words, words_of}
+use Rattle.vertex_set.proofs.Buffers.{Laid, laid_first, laid_piece, laid_store, laid_end}
+use Rattle.c_words.specs.Graphs.{graph_words}
 use Rattle.c_words.proofs.put_graph.Goals as goal
 
 module _ (n masked : ℕ) (p q out : List ℕ) (lp : length p ≡ 64) (lq : length q ≡ 64) (room : graph_words ≤ length out) where

@@ -2,7 +2,6 @@
 use Prim.Native.Nat.{ℕ}
 use mathlib.Core.Path.{sym, ap, ◌∙◌, subst}
 use lib.Bits.{bit_and, bit_xor}
-use borrow.Author.Rules.{rules}
 use Rattle.vertex_set.specs.Sets.{mem, lowest}
 use Rattle.pages.specs.declared.Bookmark.{Bookmark}
 use Rattle.pages.specs.Filling.{Past}
