@@ -1,0 +1,23 @@
+-- `c_graphs::encode` meets its contract. Assumes nothing.
+use mathlib.Core.Path.{refl, ◌∙◌}
+use borrow.Author.Rules.{rules}
+use Rattle.c_words.specs.Refusals.{unless_refused}
+use Rattle.c_words.proofs.Refusals.{refuses, passes, both_long}
+use Rattle.c_graphs.proofs.encode.Goals as goal
+
+pub returns-then-own-ne0 : goal.returns-then-own-ne0
+returns-then-own-ne0 c =
+    let own = c.own_refusal-own.ensures in rw (refuses own c.if-own-ne0.true, unless_refused) (own, (refl, refl))
+
+pub graph_at-requires : goal.graph_at-requires
+graph_at-requires c = (both_long c.if-own-ne0.false _ _ _ c.own_refusal-own.ensures).0
+
+pub put_words-requires : goal.put_words-requires
+put_words-requires c =
+    (both_long c.if-own-ne0.false _ _ _ c.own_refusal-own.ensures).1
+
+pub returns : goal.returns
+returns c =
+    let is = c.encode-encoded.ensures in
+    rw (passes c.own_refusal-own.ensures c.if-own-ne0.false, ← c.graph_at.ensures)
+    (c.number.ensures ∙ is.1.0, (is.1.1.1, c.put_words.ensures ∙ rw (c.length.ensures, is.1.1.0)))

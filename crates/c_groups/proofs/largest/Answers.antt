@@ -1,0 +1,22 @@
+-- `c_groups::largest` meets its contract. Assumes nothing.
+use mathlib.Core.Path.{refl, ◌∙◌}
+use borrow.Author.Rules.{rules}
+use Rattle.c_words.specs.Refusals.{unless_refused}
+use Rattle.c_words.proofs.Refusals.{refuses, passes, both_long}
+use Rattle.c_groups.proofs.largest.Goals as goal
+
+pub returns-then-own-ne0 : goal.returns-then-own-ne0
+returns-then-own-ne0 c =
+    let own = c.own_refusal-own.ensures in rw (refuses own c.if-own-ne0.true, unless_refused) (own, refl)
+
+pub graph_at-requires : goal.graph_at-requires
+graph_at-requires c = (both_long c.if-own-ne0.false _ _ _ c.own_refusal-own.ensures).0
+
+pub put_words-requires : goal.put_words-requires
+put_words-requires c =
+    (both_long c.if-own-ne0.false _ _ _ c.own_refusal-own.ensures).1
+
+pub returns : goal.returns
+returns c =
+    rw (passes c.own_refusal-own.ensures c.if-own-ne0.false, ← c.graph_at.ensures)
+    (c.number.ensures ∙ c.largest-found.ensures.number, c.put_words.ensures ∙ rw c.largest-found.ensures.answer)

@@ -1,0 +1,12 @@
+-- `c_guarantees::decode_call` meets its contract. Assumes nothing.
+use mathlib.Core.Path.{sym, ◌∙◌}
+use borrow.Author.Rules.{rules}
+use Rattle.c_guarantees.proofs.decode_call.Goals as goal
+
+pub returns : goal.returns
+returns c =
+    let a = c.args in
+    let is = c.mastpickle_decode.ensures in (
+      is.0,
+      λ z. record { before = a.graph.now; answer = a.answer.now; returned = sym is.0 ∙ z; left = is.1.0 },
+    )

@@ -1,0 +1,6 @@
+-- `c_guarantees::largest_call` meets its contract. Assumes nothing.
+use borrow.Author.Rules.{rules}
+use Rattle.c_guarantees.proofs.largest_call.Goals as goal
+
+pub returns : goal.returns
+returns c = c.mastpickle_largest.ensures

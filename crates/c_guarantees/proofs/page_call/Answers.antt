@@ -1,0 +1,8 @@
+-- `c_guarantees::page_call` meets its contract. Assumes nothing.
+use borrow.Author.Rules.{rules}
+use Rattle.c_guarantees.proofs.page_call.Goals as goal
+
+pub returns : goal.returns
+returns c =
+    let is = c.mastpickle_list_page.ensures in
+    λ from. record { returned = is.0; wrote = is.1.0; answered = is.1.1 }

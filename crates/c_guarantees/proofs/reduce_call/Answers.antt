@@ -1,0 +1,21 @@
+-- `c_guarantees::reduce_call` meets its contract. Assumes nothing.
+use mathlib.Core.Path.{sym, ◌∙◌}
+use mathlib.Core.Logic.{inr}
+use borrow.Author.Rules.{rules}
+use Rattle.c_guarantees.proofs.reduce_call.Goals as goal
+
+pub returns : goal.returns
+returns c =
+    let a = c.args in
+    let is = c.mastpickle_reduce.ensures in (
+      is.0,
+      λ bytes d z.
+          inr record {
+            graph = a.graph.now;
+            by_decode = d;
+            before = a.reduced.now;
+            answer = a.answer.now;
+            returned = sym is.0 ∙ z;
+            left = is.1.0;
+          },
+    )

@@ -1,0 +1,13 @@
+-- `c_words::put_words` meets its contract. Each turn copies a word. Assumes nothing.
+use Prim.Native.Nat.{◌-◌}
+use native.Mathlib.Omega.{arith}
+use borrow.Author.Rules.{rules}
+use lib.ListN.{length}
+use Rattle.vertex_set.proofs.Copies.{Copied, copied_none, copied_long, copied_room, copied_next, copied_all}
+use Rattle.c_words.proofs.put_words.Given as goal
+
+abbrev pub invariant-loop-i : goal.invariant-loop-i
+invariant-loop-i l = Copied l.words l.initial.out l.out l.i
+
+abbrev pub decreases-loop-i : goal.decreases-loop-i
+decreases-loop-i l = length l.words - l.i

@@ -1,0 +1,19 @@
+-- `canonical::put_edges` meets its contract. The edges to the members that are left are to come. Assumes nothing.
+use Prim.Native.Nat.{◌^◌, ◌<◌}
+use native.Mathlib.Omega.{arith}
+use mathlib.Core.Path.{refl}
+use mathlib.Core.List.{[], ◌∷◌}
+use borrow.Author.Rules.{rules}
+use Rattle.vertex_set.specs.Sets.{size}
+use Rattle.vertex_set.proofs.Buffers.{Laid, laid_start, laid_as, laid_room, laid_long, piece_room, laid_piece, laid_length, laid_end}
+use Rattle.vertex_set.proofs.LowestVertex.{lowest_lt, rest_lt, size_rest}
+use Rattle.commands.specs.Entries.{entry_bytes}
+use Rattle.canonical.specs.EdgeRows.{edges_to}
+use Rattle.canonical.proofs.Rows.{bytes_none, bytes_lowest}
+use Rattle.canonical.proofs.put_edges.Given as goal
+
+abbrev pub invariant-loop-left : goal.invariant-loop-left
+invariant-loop-left l = (l.left < 2 ^ 64) × Laid (entry_bytes (edges_to l.positive l.s l.p)) l.initial.out l.out l.at (entry_bytes (edges_to l.positive l.left l.p))
+
+abbrev pub decreases-loop-left : goal.decreases-loop-left
+decreases-loop-left l = size l.left

@@ -1,0 +1,67 @@
+-- `edge_list::decode_commands` meets its contract. The graph has the edges and the masks of the commands before the place reached. Assumes nothing.
+use Prim.Native.Nat.{◌+◌, ◌-◌}
+use native.Mathlib.Omega.{arith}
+use mathlib.Core.Path.{refl, sym, ◌∙◌}
+use mathlib.Core.Logic.{⊎_elim}
+use lib.ListN.{length, length-drop}
+use borrow.Author.Rules.{rules}
+use Rattle.vertex_set.proofs.Buffers.{part_from_law}
+use Rattle.commands.specs.Entries.{link, mask}
+use Rattle.edge_list.proofs.Decoding.{Reached, reached_begin, reached_end, reached_close, reached_refusal, reached_low, reached_room, reached_positive, reached_negative, reached_mask}
+use Rattle.edge_list.proofs.decode_commands.Goals as goal
+
+pub loop-at-init : goal.loop-at-init
+loop-at-init c =
+    reached_begin c.args.bytes.now c.args.n c.new-graph.result c.requires.0 c.requires.1 c.new-graph.ensures
+
+pub step_by-step-requires : goal.step_by-step-requires
+step_by-step-requires c =
+    let bytes = c.args.bytes.now in
+    let start = c.loop-at.at + 1 in
+    (c.loop-at.invariant.small, rw (part_from_law bytes start) (omega (arith, length-drop start bytes)))
+
+pub put_edge-requires : goal.put_edge-requires
+put_edge-requires c =
+    reached_low c.loop-at-test.true c.loop-at.invariant c.step_by-step.ensures c.in-Edge.is
+
+pub put_edge-requires-in-Negative : goal.put_edge-requires-in-Negative
+put_edge-requires-in-Negative c =
+    reached_low c.loop-at-test.true c.loop-at.invariant c.step_by-step.ensures c.in-Edge.is
+
+pub overflow_add-at : goal.overflow_add-at
+overflow_add-at c =
+    omega (arith, (goal.at.overflow_add-at c).Joined-sign, reached_room c.loop-at-test.true c.loop-at.invariant c.step_by-step.ensures (link _ _ _) c.in-Edge.is)
+
+pub loop-at-smaller-in-Edge : goal.loop-at-smaller-in-Edge
+loop-at-smaller-in-Edge c = omega (arith, c.loop-at-test.true)
+
+pub loop-at-preserved-in-Edge : goal.loop-at-preserved-in-Edge
+loop-at-preserved-in-Edge c =
+    let e = c.in-Edge.is in
+    ⊎_elim
+    (λ w. reached_positive c.loop-at-test.true c.loop-at.invariant c.step_by-step.ensures e w.1.given.1 w.3.ensures w.4)
+    (λ w. reached_negative c.loop-at-test.true c.loop-at.invariant c.step_by-step.ensures e w.1.given.1 w.3.ensures w.4)
+    c.match-sign.branch
+
+pub overflow_add-at-in-Mask : goal.overflow_add-at-in-Mask
+overflow_add-at-in-Mask c =
+    omega (arith, reached_room c.loop-at-test.true c.loop-at.invariant c.step_by-step.ensures (mask _) c.in-Mask.is)
+
+pub loop-at-smaller : goal.loop-at-smaller
+loop-at-smaller c = omega (arith, c.loop-at-test.true)
+
+pub loop-at-preserved : goal.loop-at-preserved
+loop-at-preserved c =
+    reached_mask c.loop-at-test.true c.loop-at.invariant c.step_by-step.ensures c.in-Mask.is c.single.ensures refl
+
+pub returns-in-Close : goal.returns-in-Close
+returns-in-Close c =
+    sym (reached_close c.loop-at-test.true c.loop-at.invariant c.step_by-step.ensures c.in-Close.is)
+
+pub returns-in-Refuse : goal.returns-in-Refuse
+returns-in-Refuse c =
+    c.refuse.ensures
+    ∙ sym (reached_refusal c.loop-at-test.true c.loop-at.invariant c.step_by-step.ensures c.in-Refuse.is)
+
+pub returns : goal.returns
+returns c = c.refuse-2.ensures ∙ sym (reached_end c.loop-at-test.false c.loop-at.invariant)

@@ -1,0 +1,6 @@
+-- `guarantees::largest_call` meets its contract. Assumes nothing.
+use borrow.Author.Rules.{rules}
+use Rattle.guarantees.proofs.largest_call.Goals as goal
+
+pub returns : goal.returns
+returns c = c.largest.ensures.answer

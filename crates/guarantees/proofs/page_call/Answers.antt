@@ -1,0 +1,8 @@
+-- `guarantees::page_call` meets its contract. Assumes nothing.
+use borrow.Author.Rules.{rules}
+use Rattle.guarantees.proofs.page_call.Goals as goal
+
+pub returns : goal.returns
+returns c =
+    let page = c.list_page in
+    record { answered = page.ensures.0; wrote = page.ensures.1.0 }

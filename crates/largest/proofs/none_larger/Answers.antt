@@ -1,0 +1,15 @@
+-- `largest::none_larger` meets its contract. Assumes nothing.
+use mathlib.Core.Path.{refl}
+use mathlib.Core.Bool.{false}
+use borrow.Author.Rules.{rules}
+use Rattle.vertex_set.proofs.Booleans.{clash}
+use Rattle.largest.proofs.SizesBelow.{none_larger_have}
+use Rattle.largest.proofs.none_larger.Goals as goal
+
+pub returns-then-most-have : goal.returns-then-most-have
+returns-then-most-have c e = clash false e refl
+
+pub returns : goal.returns
+returns c e any so bounds =
+    let have = c.size-have in
+    none_larger_have _ _ _ _ have.result have.ensures c.if-most-have.false (c.at_most_alone_first-found.ensures e any so bounds)

@@ -1,0 +1,11 @@
+-- `look_ahead::has_short_side` meets its contract. Assumes nothing.
+use mathlib.Core.Path.{refl}
+use borrow.Author.Rules.{rules}
+use Rattle.look_ahead.proofs.Lacking.{lacks_left, lacks_right}
+use Rattle.look_ahead.proofs.has_short_side.Goals as goal
+
+pub returns-then-stays_short : goal.returns-then-stays_short
+returns-then-stays_short c = lacks_left _ _ _ _ (c.stays_short.ensures c.if-stays_short.true)
+
+pub returns : goal.returns
+returns c e = lacks_right _ _ _ _ (c.stays_short-2.ensures e) refl

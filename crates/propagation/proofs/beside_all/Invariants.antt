@@ -1,0 +1,13 @@
+-- `propagation::beside_all` meets its contract. What is kept fits beside the candidates that are not left. Assumes nothing.
+use native.Mathlib.Omega.{arith}
+use borrow.Author.Rules.{rules}
+use Rattle.vertex_set.specs.Sets.{size}
+use Rattle.vertex_set.proofs.LowestVertex.{lowest_lt, size_rest}
+use Rattle.propagation.proofs.FreeVertices.{Passing, passing_begin, passing_step, passing_end, beside_none}
+use Rattle.propagation.proofs.beside_all.Given as goal
+
+abbrev pub invariant-loop-left : goal.invariant-loop-left
+invariant-loop-left l = Passing l.positive l.negative l.candidates l.initial.near l.initial.far l.left l.near l.far
+
+abbrev pub decreases-loop-left : goal.decreases-loop-left
+decreases-loop-left l = size l.left

@@ -1,0 +1,11 @@
+-- `propagation::propagate` meets its contract. The node stands for the same groups after each step. Assumes nothing.
+use Prim.Native.Nat.{◌-◌}
+use borrow.Author.Rules.{rules}
+use Rattle.propagation.proofs.Advances.{Advanced, advanced_begin, advanced_fewer, advanced_advances, advanced_step, advanced_end}
+use Rattle.propagation.proofs.propagate.Given as goal
+
+abbrev pub invariant-loop-steps : goal.invariant-loop-steps
+invariant-loop-steps l = Advanced l.positive l.negative l.k l.initial.node l.node
+
+abbrev pub decreases-loop-steps : goal.decreases-loop-steps
+decreases-loop-steps l = 64 - l.steps

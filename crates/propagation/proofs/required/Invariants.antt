@@ -1,0 +1,13 @@
+-- `propagation::required` meets its contract. Those found so far are each the only one that some excluded vertex does not fit beside.
+use native.Mathlib.Omega.{arith}
+use borrow.Author.Rules.{rules}
+use Rattle.vertex_set.specs.Sets.{size}
+use Rattle.vertex_set.proofs.LowestVertex.{lowest_lt, size_rest}
+use Rattle.propagation.proofs.SoleConflicts.{Requiring, requiring_begin, requiring_step}
+use Rattle.propagation.proofs.required.Given as goal
+
+abbrev pub invariant-loop-left : goal.invariant-loop-left
+invariant-loop-left l = Requiring l.positive l.negative l.excluded l.near l.far l.left l.held
+
+abbrev pub decreases-loop-left : goal.decreases-loop-left
+decreases-loop-left l = size l.left

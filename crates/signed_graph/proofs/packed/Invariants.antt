@@ -1,0 +1,15 @@
+-- `signed_graph::packed` meets its contract. The rows before p are filled. Assumes nothing.
+use Prim.Native.Nat.{◌-◌, ◌≤◌}
+use native.Mathlib.Omega.{arith}
+use mathlib.Core.Path.{refl}
+use borrow.Author.Rules.{rules}
+use lib.ListN.{get_or}
+use Rattle.bit_matrix.proofs.Matrices.{Filled, fill_begin, fill_step, fill_end}
+use Rattle.signed_graph.specs.Rows.{packs, packed_row, packed}
+use Rattle.signed_graph.proofs.packed.Given as goal
+
+abbrev pub invariant-loop-p : goal.invariant-loop-p
+invariant-loop-p l = (l.p ≤ 64) × (Filled (λ p. packs (get_or l.upper p 0) (get_or l.lower p 0) p) l.p l.rows)
+
+abbrev pub decreases-loop-p : goal.decreases-loop-p
+decreases-loop-p l = 64 - l.p
