@@ -1,6 +1,5 @@
 -- `listing::list_leaf` meets its contract. Assumes nothing.
 use mathlib.Core.Path.{sym, ◌∙◌}
-use borrow.Author.Rules.{rules}
 use Rattle.listing.proofs.Search.{lists_other, lists_late, lists_put}
 use Rattle.listing.proofs.list_leaf.Goals as goal
 
