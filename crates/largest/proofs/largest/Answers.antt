@@ -1,6 +1,5 @@
 -- `largest::largest` meets its contract. The check decides, then the largest group of a sound graph. Assumes nothing.
 use mathlib.Core.Path.{◌≡◌, refl, sym, ap, ◌∙◌}
-use borrow.Author.Rules.{rules}
 use Rattle.signed_graph.specs.declared.SignedGraph.{SignedGraph}
 use Rattle.signed_graph.specs.declared.Check.{Check}
 use Rattle.signed_graph.specs.Calls.{check_of, check_number}

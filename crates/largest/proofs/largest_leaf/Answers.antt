@@ -1,7 +1,6 @@
 -- `largest::largest_leaf` meets its contract. Assumes nothing.
 use native.Mathlib.Omega.{arith}
 use mathlib.Core.Path.{sym, ◌∙◌}
-use borrow.Author.Rules.{rules}
 use Rattle.largest.proofs.Bests.{finds_other, finds_smaller, finds_larger}
 use Rattle.largest.proofs.largest_leaf.Goals as goal
 
