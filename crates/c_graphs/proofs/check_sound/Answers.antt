@@ -6,7 +6,7 @@ use Rattle.c_words.proofs.Refusals.{refuses, passes, graph_long}
 use Rattle.c_graphs.proofs.check_sound.Goals as goal
 
 pub returns-then-own-ne0 : goal.returns-then-own-ne0
-returns-then-own-ne0 c = let own = c.graph_refusal-own.ensures in rw (refuses own c.if-own-ne0.true, unless_refused) own
+returns-then-own-ne0 c = let own = c.graph_refusal-own.ensures in rw (refuses own c.if-own-ne0.true, unless_refused) (record { number = own })
 
 pub graph_at-requires : goal.graph_at-requires
 graph_at-requires c = graph_long c.if-own-ne0.false _ c.graph_refusal-own.ensures
@@ -14,4 +14,4 @@ graph_at-requires c = graph_long c.if-own-ne0.false _ c.graph_refusal-own.ensure
 pub returns : goal.returns
 returns c =
     rw (passes c.graph_refusal-own.ensures c.if-own-ne0.false, ← c.graph_at.ensures)
-    (c.number.ensures ∙ c.check_graph.ensures.number)
+    (record { number = c.number.ensures ∙ c.check_graph.ensures.number })

@@ -9,7 +9,7 @@ use Rattle.c_graphs.proofs.decode.Goals as goal
 
 pub returns-then-own-ne0 : goal.returns-then-own-ne0
 returns-then-own-ne0 c =
-    let own = c.own_refusal-own.ensures in rw (refuses own c.if-own-ne0.true, unless_refused) (own, (refl, refl))
+    let own = c.own_refusal-own.ensures in rw (refuses own c.if-own-ne0.true, unless_refused) (record { number = own; words = refl; place = refl })
 
 pub put_graph-requires : goal.put_graph-requires
 put_graph-requires c =
@@ -23,10 +23,8 @@ pub returns : goal.returns
 returns c =
     let a = c.args in
     let is = c.decode-decoded.ensures in
-    rw (passes c.own_refusal-own.ensures c.if-own-ne0.false) (
-      c.number.ensures ∙ is.1.0,
-      (
-        written_as a.graph.now (ap (λ (x : Decoded). x.graph) is.0) c.put_graph.ensures,
-        c.put_words.ensures ∙ rw (c.place.ensures, is.1.1.0),
-      ),
-    )
+    rw (passes c.own_refusal-own.ensures c.if-own-ne0.false) (record {
+      number = c.number.ensures ∙ is.number;
+      words = written_as a.graph.now (ap (λ (x : Decoded). x.graph) is.answer) c.put_graph.ensures;
+      place = c.put_words.ensures ∙ rw (c.place.ensures, is.place);
+    })

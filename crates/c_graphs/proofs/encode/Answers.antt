@@ -7,7 +7,7 @@ use Rattle.c_graphs.proofs.encode.Goals as goal
 
 pub returns-then-own-ne0 : goal.returns-then-own-ne0
 returns-then-own-ne0 c =
-    let own = c.own_refusal-own.ensures in rw (refuses own c.if-own-ne0.true, unless_refused) (own, (refl, refl))
+    let own = c.own_refusal-own.ensures in rw (refuses own c.if-own-ne0.true, unless_refused) (record { number = own; bytes = refl; size = refl })
 
 pub graph_at-requires : goal.graph_at-requires
 graph_at-requires c = (both_long c.if-own-ne0.false _ _ _ c.own_refusal-own.ensures).0
@@ -20,4 +20,8 @@ pub returns : goal.returns
 returns c =
     let is = c.encode-encoded.ensures in
     rw (passes c.own_refusal-own.ensures c.if-own-ne0.false, ← c.graph_at.ensures)
-    (c.number.ensures ∙ is.1.0, (is.1.1.1, c.put_words.ensures ∙ rw (c.length.ensures, is.1.1.0)))
+    (record {
+      number = c.number.ensures ∙ is.number;
+      bytes = is.buffer;
+      size = c.put_words.ensures ∙ rw (c.length.ensures, is.size);
+    })

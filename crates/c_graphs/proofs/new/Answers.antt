@@ -8,7 +8,7 @@ use Rattle.c_graphs.proofs.new.Goals as goal
 
 pub returns-then-own-ne0 : goal.returns-then-own-ne0
 returns-then-own-ne0 c =
-    let own = c.graph_refusal-own.ensures in rw (refuses own c.if-own-ne0.true, unless_refused) (own, refl)
+    let own = c.graph_refusal-own.ensures in rw (refuses own c.if-own-ne0.true, unless_refused) (record { number = own; words = refl })
 
 pub put_graph-requires : goal.put_graph-requires
 put_graph-requires c =
@@ -17,4 +17,4 @@ put_graph-requires c =
 pub returns : goal.returns
 returns c =
     rw (passes c.graph_refusal-own.ensures c.if-own-ne0.false)
-    (refl, written_as c.args.graph.now c.new.ensures c.put_graph.ensures)
+    (record { number = refl; words = written_as c.args.graph.now c.new.ensures c.put_graph.ensures })

@@ -18,7 +18,7 @@ own answer needed e is = cc
 pub returns-then-own-ne0 : goal.returns-then-own-ne0
 returns-then-own-ne0 c =
     let e = own _ _ c.own_refusal-own.ensures c.shorter-least.ensures in
-    rw (refuses e c.if-own-ne0.true, unless_refused) (e, (refl, refl))
+    rw (refuses e c.if-own-ne0.true, unless_refused) (record { number = e; words = refl; looks = refl })
 
 pub graph_at-requires : goal.graph_at-requires
 graph_at-requires c =
@@ -36,10 +36,8 @@ pub returns : goal.returns
 returns c =
     let a = c.args in
     let is = c.reduce-done.ensures.answer ∙ ap (λ (x : SignedGraph). reduced x a.k) c.graph_at.ensures in
-    rw (passes (own _ _ c.own_refusal-own.ensures c.shorter-least.ensures) c.if-own-ne0.false) (
-      c.number.ensures ∙ c.reduce-done.ensures.number.0 ∙ rw c.graph_at.ensures,
-      (
-        written_as a.reduced.now (ap (λ (x : Reduced). x.graph) is) c.put_graph.ensures,
-        c.put_words.ensures ∙ rw (ap (λ (x : Reduced). x.looks) is),
-      ),
-    )
+    rw (passes (own _ _ c.own_refusal-own.ensures c.shorter-least.ensures) c.if-own-ne0.false) (record {
+      number = c.number.ensures ∙ c.reduce-done.ensures.number ∙ rw c.graph_at.ensures;
+      words = written_as a.reduced.now (ap (λ (x : Reduced). x.graph) is) c.put_graph.ensures;
+      looks = c.put_words.ensures ∙ rw (ap (λ (x : Reduced). x.looks) is);
+    })

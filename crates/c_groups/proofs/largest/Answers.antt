@@ -7,7 +7,7 @@ use Rattle.c_groups.proofs.largest.Goals as goal
 
 pub returns-then-own-ne0 : goal.returns-then-own-ne0
 returns-then-own-ne0 c =
-    let own = c.own_refusal-own.ensures in rw (refuses own c.if-own-ne0.true, unless_refused) (own, refl)
+    let own = c.own_refusal-own.ensures in rw (refuses own c.if-own-ne0.true, unless_refused) (record { number = own; words = refl })
 
 pub graph_at-requires : goal.graph_at-requires
 graph_at-requires c = (both_long c.if-own-ne0.false _ _ _ c.own_refusal-own.ensures).0
@@ -19,4 +19,7 @@ put_words-requires c =
 pub returns : goal.returns
 returns c =
     rw (passes c.own_refusal-own.ensures c.if-own-ne0.false, ← c.graph_at.ensures)
-    (c.number.ensures ∙ c.largest-found.ensures.number, c.put_words.ensures ∙ rw c.largest-found.ensures.answer)
+    (record {
+      number = c.number.ensures ∙ c.largest-found.ensures.number;
+      words = c.put_words.ensures ∙ rw c.largest-found.ensures.answer;
+    })

@@ -10,7 +10,7 @@ use Rattle.c_pages.proofs.list_page.Goals as goal
 
 pub returns-then-own-ne0 : goal.returns-then-own-ne0
 returns-then-own-ne0 c =
-    let own = c.page_refusal-own.ensures in rw (refuses own c.if-own-ne0.true, unless_refused) (own, (refl, refl))
+    let own = c.page_refusal-own.ensures in rw (refuses own c.if-own-ne0.true, unless_refused) (record { number = own; bytes = refl; words = refl })
 
 pub graph_at-requires : goal.graph_at-requires
 graph_at-requires c = (page_long c.if-own-ne0.false _ _ _ c.page_refusal-own.ensures).0
@@ -24,4 +24,8 @@ pub returns : goal.returns
 returns c =
     let page = c.list_page-page.ensures in
     rw (passes c.page_refusal-own.ensures c.if-own-ne0.false, ← c.graph_at.ensures, ← c.mark_at.ensures)
-    (c.number.ensures ∙ page.1.1.0, (page.1.0, c.put_words.ensures ∙ rw (c.page_values-words.ensures ∙ page.1.1.1)))
+    (record {
+      number = c.number.ensures ∙ page.number;
+      bytes = page.bytes;
+      words = c.put_words.ensures ∙ rw (c.page_values-words.ensures ∙ page.values);
+    })
