@@ -4,7 +4,7 @@
 
 LIB = target/staticlib/libmastpickle.a
 GROUPS = target/bin/groups
-SOURCES = crates.txt $(shell find crates -type d -o -name '*.rt' -o -name '*.antt')
+SOURCES = crates.txt $(shell find $(wildcard crates/*/src crates/*/specs crates/*/proofs) -type d -o -name '*.rt' -o -name '*.antt')
 CARGO = cargo run --quiet --release --offline --locked
 TRIALS = $(CARGO) --manifest-path trials/Cargo.toml --target-dir target/trials --
 BENCH = $(CARGO) --manifest-path bench/Cargo.toml --target-dir target/bench --
@@ -14,12 +14,13 @@ SECONDS = 600
 SEED = 1
 ARGS =
 
-# Runs the prover (first argument) with its notes in a log (second); where it fails, shows the end of the log.
-define logged
-@mkdir -p target
-@echo 'proving and building $@; the notes of the prover go to $(2)' >&2
-@$(1) >$(2) 2>&1 || { status=$$?; tail -n 20 $(2) >&2; echo '$(1) failed: see $(2)' >&2; exit $$status; }
-@touch $@
+# Runs the prover (second argument) on a crate (first), with its notes in a log (fourth), and takes what it built there (third); where it fails,
+# shows the end of the log.
+define proved
+@mkdir -p $(dir $@)
+@echo 'proving and building $@; the notes of the prover go to $(4)' >&2
+@(cd crates/$(1) && $(2)) >$(4) 2>&1 </dev/null || { status=$$?; tail -n 20 $(4) >&2; echo '$(2) in crates/$(1) failed: see $(4)' >&2; exit $$status; }
+@cp crates/$(1)/out/$(3) $@
 endef
 
 help: ## print the targets
@@ -49,14 +50,15 @@ bench: $(LIB) ## time the library and its peers, and write bench/RESULTS.md
 bench-check: $(LIB) ## compare what the library and its peers find, and time nothing
 	$(BENCH) --check
 
-test: ## the gate: prove all from nothing, try the edits that must fail, run everything
+test: ## the gate: prove all, try the edits that must fail, run everything
 	./.ci/run
 
-clean: ## remove all that was built
-	rm -rf target trials/target bench/target
+clean: ## remove all that was built, and what checks kept
+	rm -rf target trials/target bench/target crates/*/out
 
 $(LIB): $(SOURCES)
-	$(call logged,rt staticlib mastpickle,target/mastpickle.log)
+	$(call proved,mastpickle_c,rt lib,libmastpickle_c.a,target/mastpickle.log)
 
+# rt run also runs it, on empty input.
 $(GROUPS): $(SOURCES)
-	$(call logged,rt check groups,target/groups.log)
+	$(call proved,groups,rt run,groups,target/groups.log)

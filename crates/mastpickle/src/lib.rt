@@ -1,4 +1,5 @@
-// The library for C, C++ and Rust: each call of the finder on numbers and slices, under its C name. include/mastpickle.h says how it is used.
+// Each call of the finder on numbers and slices, under its C name. `mastpickle_c` exports these functions; include/mastpickle.h says how they
+// are used.
 #![tactic(auto)]
 
 ghost use Rattle.std.specs.Prelude.{◌≡◌};
@@ -9,8 +10,7 @@ ghost use Rattle.c_pages.specs.Answers.{part_at};
 ghost use Rattle.c_pages.specs.Calls.{list_page_returns, list_page_buffer, list_page_answer, record_at_returns, record_at_answer};
 
 // Writes the graph of n vertices with no edge; of no vertices for n over 64.
-#[unsafe(no_mangle)]
-pub extern "C" fn mastpickle_new(n: u64, graph: &mut [u64]) -> u64
+pub fn mastpickle_new(n: u64, graph: &mut [u64]) -> u64
     ensures number { result ≡ new_returns graph.old }
     ensures words { graph.new ≡ new_graph n graph.old }
 {
@@ -18,24 +18,21 @@ pub extern "C" fn mastpickle_new(n: u64, graph: &mut [u64]) -> u64
 }
 
 // Whether the graph is sound.
-#[unsafe(no_mangle)]
-pub extern "C" fn mastpickle_check_sound(graph: &[u64]) -> u64
+pub fn mastpickle_check_sound(graph: &[u64]) -> u64
     ensures number { result ≡ check_sound_returns graph.now }
 {
     c_graphs::check_sound(graph)
 }
 
 // Whether a call on the graph with threshold k is refused.
-#[unsafe(no_mangle)]
-pub extern "C" fn mastpickle_check_call(graph: &[u64], k: u64) -> u64
+pub fn mastpickle_check_call(graph: &[u64], k: u64) -> u64
     ensures number { result ≡ check_call_returns graph.now k }
 {
     c_graphs::check_call(graph, k)
 }
 
 // Writes the graph of an edge list or an amendment list, and the place of its fault.
-#[unsafe(no_mangle)]
-pub extern "C" fn mastpickle_decode(bytes: &[u8], graph: &mut [u64], answer: &mut [u64]) -> u64
+pub fn mastpickle_decode(bytes: &[u8], graph: &mut [u64], answer: &mut [u64]) -> u64
     ensures number { result ≡ decode_returns bytes.now graph.old answer.old }
     ensures words { graph.new ≡ decode_graph bytes.now graph.old answer.old }
     ensures place { answer.new ≡ decode_answer bytes.now graph.old answer.old }
@@ -44,8 +41,7 @@ pub extern "C" fn mastpickle_decode(bytes: &[u8], graph: &mut [u64], answer: &mu
 }
 
 // Writes the canonical edge list of the graph, and its length.
-#[unsafe(no_mangle)]
-pub extern "C" fn mastpickle_encode(graph: &[u64], out: &mut [u8], answer: &mut [u64]) -> u64
+pub fn mastpickle_encode(graph: &[u64], out: &mut [u8], answer: &mut [u64]) -> u64
     ensures number { result ≡ encode_returns graph.now out.old answer.old }
     ensures bytes { out.new ≡ encode_buffer graph.now out.old answer.old }
     ensures size { answer.new ≡ encode_answer graph.now out.old answer.old }
@@ -54,8 +50,7 @@ pub extern "C" fn mastpickle_encode(graph: &[u64], out: &mut [u8], answer: &mut 
 }
 
 // Writes what a set is in the graph at threshold k.
-#[unsafe(no_mangle)]
-pub extern "C" fn mastpickle_classify(graph: &[u64], k: u64, set: u64, answer: &mut [u64]) -> u64
+pub fn mastpickle_classify(graph: &[u64], k: u64, set: u64, answer: &mut [u64]) -> u64
     ensures number { result ≡ classify_returns graph.now k answer.old }
     ensures words { answer.new ≡ classify_answer graph.now k set answer.old }
 {
@@ -63,13 +58,7 @@ pub extern "C" fn mastpickle_classify(graph: &[u64], k: u64, set: u64, answer: &
 }
 
 // Writes the graph reduced for threshold k, and the looks that it took.
-#[unsafe(no_mangle)]
-pub extern "C" fn mastpickle_reduce(
-    graph: &[u64],
-    k: u64,
-    reduced: &mut [u64],
-    answer: &mut [u64],
-) -> u64
+pub fn mastpickle_reduce(graph: &[u64], k: u64, reduced: &mut [u64], answer: &mut [u64]) -> u64
     ensures number { result ≡ reduce_returns graph.now k reduced.old answer.old }
     ensures words { reduced.new ≡ reduce_graph graph.now k reduced.old answer.old }
     ensures looks { answer.new ≡ reduce_answer graph.now k reduced.old answer.old }
@@ -78,8 +67,7 @@ pub extern "C" fn mastpickle_reduce(
 }
 
 // Writes a page of the listing for threshold k, and its answer.
-#[unsafe(no_mangle)]
-pub extern "C" fn mastpickle_list_page(
+pub fn mastpickle_list_page(
     graph: &[u64],
     k: u64,
     kind: u64,
@@ -95,8 +83,7 @@ pub extern "C" fn mastpickle_list_page(
 }
 
 // Writes the sides of the largest group for threshold k.
-#[unsafe(no_mangle)]
-pub extern "C" fn mastpickle_largest(graph: &[u64], k: u64, answer: &mut [u64]) -> u64
+pub fn mastpickle_largest(graph: &[u64], k: u64, answer: &mut [u64]) -> u64
     ensures number { result ≡ largest_returns graph.now k answer.old }
     ensures words { answer.new ≡ largest_answer graph.now k answer.old }
 {
@@ -104,8 +91,7 @@ pub extern "C" fn mastpickle_largest(graph: &[u64], k: u64, answer: &mut [u64]) 
 }
 
 // Writes where record i of a listing stands.
-#[unsafe(no_mangle)]
-pub extern "C" fn mastpickle_record_at(listing: &[u8], i: u64, answer: &mut [u64]) -> u64
+pub fn mastpickle_record_at(listing: &[u8], i: u64, answer: &mut [u64]) -> u64
     ensures number { result ≡ record_at_returns answer.old }
     ensures words { answer.new ≡ record_at_answer listing.now i answer.old }
     ensures part { result ≡ 0 → part_at listing.now answer.new ≡ record_at listing.now i }
@@ -114,8 +100,7 @@ pub extern "C" fn mastpickle_record_at(listing: &[u8], i: u64, answer: &mut [u64
 }
 
 // Writes for each set how many groups for threshold k contain it.
-#[unsafe(no_mangle)]
-pub extern "C" fn mastpickle_count(graph: &[u64], k: u64, sets: &[u64], counts: &mut [u64]) -> u64
+pub fn mastpickle_count(graph: &[u64], k: u64, sets: &[u64], counts: &mut [u64]) -> u64
     ensures number { result ≡ count_returns graph.now k sets.now counts.old }
     ensures words { counts.new ≡ count_counts graph.now k sets.now counts.old }
 {
