@@ -41,16 +41,19 @@ module _ (g : SignedGraph) (k : Threshold) (sets buffer : List ℕ) where
   -- all that the contract says of an answer and of the buffer
   abbrev Answers : Counting → List ℕ → Type 0
   Answers r after =
-      (r ≡ counting_of g k sets buffer) × ((after ≡ counts_of g k sets buffer) × (counting_number r ≡ counts_number g k sets buffer))
+      record {
+        answer : r ≡ counting_of g k sets buffer;
+        counts : after ≡ counts_of g k sets buffer;
+        number : counting_number r ≡ counts_number g k sets buffer
+      }
 
   answers : (r : Counting) → r ≡ counting_of g k sets buffer → Answers r (buffer_by r (map (containing g k) sets) buffer)
-  answers r e = (
-    e,
-    (
-      ap (λ (x : Counting). buffer_by x (map (containing g k) sets) buffer) e,
-      ap counting_number e ∙ counting_number_law,
-    ),
-  )
+  answers r e =
+      record {
+        answer = e;
+        counts = ap (λ (x : Counting). buffer_by x (map (containing g k) sets) buffer) e;
+        number = ap counting_number e ∙ counting_number_law;
+      }
 
   pub refused : (why : Refusal) → check_of g k ≡ check.Refused why → Answers (Refused why) buffer
   refused why e = answers (Refused why) (sym (ap (λ (x : Check). counting_by x short many) e))

@@ -1,5 +1,12 @@
 // Standard input and output: reading and writing that tell a failure.
-ghost use Rattle.std.specs.Prelude.{◌≤◌, length};
+ghost use Rattle.std.specs.Prelude.{◌≡◌, ◌≤◌, length};
+
+use std::fs;
+use std::fs::OpenOptions;
+use std::io::{Cursor, Error, ErrorKind, Read, Result, Write};
+use std::str::from_utf8;
+use std::thread;
+use std::time::Duration;
 
 // How far reading or writing came.
 #[derive(Clone, Copy)]
@@ -7,118 +14,175 @@ pub struct Progress {
     pub count: usize,
     // Whether nothing more comes: the input is at its end, or a call failed.
     pub is_over: bool,
-    pub is_failed: bool,
+    // Why a call failed; nothing where none did.
+    pub failure: Option<Error>,
 }
 
-// Waits a millisecond, or less where a signal comes.
-fn pause() {
-    let asked = libc::types::timespec {
-        tv_sec: 0,
-        tv_nsec: 1000000,
-    };
-    let mut left = libc::types::timespec {
-        tv_sec: 0,
-        tv_nsec: 0,
-    };
-    libc::nanosleep(&asked, &mut left);
+// Nothing more was read or written, for this error.
+fn failed(error: Error) -> Progress
+    ensures { result.count ≡ 0 }
+{
+    Progress {
+        count: 0,
+        is_over: true,
+        failure: Some(error),
+    }
+}
+
+// Nothing was read or written, and that is no failure.
+fn interrupted() -> Progress
+    ensures { result.count ≡ 0 }
+{
+    Progress {
+        count: 0,
+        is_over: false,
+        failure: None,
+    }
+}
+
+// Waits a millisecond.
+fn pause(rt: HostRuntime) {
+    thread::sleep(&rt, Duration::from_millis(1));
 }
 
 // Whether a write that failed is tried again: at once where a signal interrupted it, after a pause where it would block.
-fn is_tried_again() -> bool {
-    let error = os::errno();
-    if error == libc::EAGAIN {
-        pause();
+fn is_tried_again(rt: HostRuntime, error: Error) -> bool {
+    let kind = error.kind();
+    if kind == ErrorKind::WouldBlock {
+        pause(rt);
         return true;
     }
-    error == libc::EINTR
+    kind == ErrorKind::Interrupted
 }
 
 // One write. One that takes nothing is a failure.
-fn write_some(fd: i32, bytes: &[u8]) -> Progress
+fn write_some<W: Write>(rt: HostRuntime, to: &mut W, bytes: &[u8]) -> Progress
     ensures { result.count ≤ length bytes.now }
 {
-    let written = libc::write(fd, bytes);
-    let is_failed = written == 0 || written < 0 && !is_tried_again();
-    Progress {
-        count: io::count(written, bytes),
-        is_over: is_failed,
-        is_failed,
+    match to.write(bytes) {
+        Ok(0) => failed(Error::from(ErrorKind::WriteZero)),
+        Ok(count) => Progress {
+            count,
+            is_over: false,
+            failure: None,
+        },
+        Err(error) if is_tried_again(rt, error) => interrupted(),
+        Err(error) => failed(error),
     }
 }
 
-// Writes bytes, and returns whether all were written. A proved loop has to end, so this one counts its turns, down from a number
-// that no run uses up.
-fn write_all(fd: i32, bytes: &[u8]) -> bool {
+// Writes bytes, all of them unless it fails. A proved loop has to end, so this one has a number of turns that no run uses up.
+fn write_all<W: Write>(rt: HostRuntime, to: &mut W, bytes: &[u8]) -> Result<()> {
     let mut at: usize = 0;
-    let mut turns = u64::MAX;
-    while turns > 0 {
+    for _ in 0..u64::MAX {
         if at == bytes.len() {
-            return true;
+            return Ok(());
         }
-        let some = write_some(fd, &bytes[at..]);
-        if some.is_failed {
-            return false;
+        let some = write_some(rt, to, &bytes[at..]);
+        if let Some(error) = some.failure {
+            return Err(error);
         }
         at += some.count;
-        turns -= 1;
     }
-    false
+    Err(Error::from(ErrorKind::TimedOut))
 }
 
 // One read. One that a signal interrupted reads nothing, and is no failure.
-fn read_some(fd: i32, space: &mut [u8]) -> Progress
+fn read_some<R: Read>(input: &mut R, space: &mut [u8]) -> Progress
     ensures { result.count ≤ length space.old }
 {
-    let read = libc::read(fd, space);
-    let is_failed = read < 0 && os::errno() != libc::EINTR;
-    Progress {
-        count: io::count(read, space),
-        is_over: read == 0 || is_failed,
-        is_failed,
+    match input.read(space) {
+        Ok(count) => Progress {
+            count,
+            is_over: count == 0,
+            failure: None,
+        },
+        Err(error) if error.kind() == ErrorKind::Interrupted => interrupted(),
+        Err(error) => failed(error),
     }
 }
 
 // Reads until the buffer is full, the input ends or a read fails. A read into a full buffer reads nothing, as one at the end.
-pub fn read_all(fd: i32, space: &mut [u8]) -> Progress
+pub fn read_all<R: Read>(input: &mut R, space: &mut [u8]) -> Progress
     ensures { result.count ≤ length space.new }
 {
     let mut at: usize = 0;
-    let mut turns = u64::MAX;
-    while turns > 0 {
-        let some = read_some(fd, &mut space[at..]);
+    for _ in 0..u64::MAX {
+        let some = read_some(input, &mut space[at..]);
         if some.is_over {
             return Progress {
                 count: at,
                 is_over: true,
-                is_failed: some.is_failed,
+                failure: some.failure,
             };
         }
         at += some.count;
-        turns -= 1;
     }
     Progress {
         count: at,
         is_over: false,
-        is_failed: true,
+        failure: Some(Error::from(ErrorKind::TimedOut)),
     }
 }
 
-fn say_incomplete() {
-    os::fail(b"groups: the output is incomplete");
+// The most bytes of an error's words; further ones are cut.
+const WORDS: usize = 128;
+
+// The words alone: std puts the number of the system's error behind them.
+fn without_number(words: &str) -> &str {
+    match words.split_once(" (os error ") {
+        Some((alone, _)) => alone,
+        None => words,
+    }
+}
+
+// Writes a line to standard error: what failed, a colon and the error's words. Where that fails too, nothing is left to do.
+pub fn fail(rt: HostRuntime, what: &str, error: Error) {
+    let mut text = Cursor::new([0u8; WORDS]);
+    let _ = write!(text, "{error}");
+    let length = (text.position() as usize).min(WORDS);
+    let space = text.into_inner();
+    let words = without_number(from_utf8(&space[..length]).unwrap_or(""));
+    let _ = eprintln!(rt; "{what}: {words}");
+}
+
+fn say_incomplete(rt: HostRuntime, error: Error) {
+    fail(rt, "groups: the output is incomplete", error);
 }
 
 // Writes bytes, and returns whether all were written. Where not, a line on standard error says so.
-pub fn print(fd: i32, bytes: &[u8]) -> bool {
-    let is_whole = write_all(fd, bytes);
-    if !is_whole {
-        say_incomplete();
+pub fn print<W: Write>(rt: HostRuntime, to: &mut W, bytes: &[u8]) -> bool {
+    match write_all(rt, to, bytes) {
+        Ok(()) => true,
+        Err(error) => {
+            say_incomplete(rt, error);
+            false
+        }
     }
-    is_whole
 }
 
-// Closes standard output: some file systems tell only then that a write failed.
-pub fn close_output() {
-    if libc::close(libc::STDOUT_FILENO) < 0 {
-        say_incomplete();
+// Whether standard output is a regular file.
+fn is_file(rt: HostRuntime) -> bool {
+    match fs::metadata(&rt, "/dev/stdout") {
+        Ok(found) => found.is_file(),
+        Err(_) => false,
+    }
+}
+
+// Brings the file that standard output is to its disk. A file that cannot be opened again has no more to tell.
+fn sync_file(rt: HostRuntime) -> Result<()> {
+    match OpenOptions::new().append(true).open(&rt, "/dev/stdout") {
+        Ok(file) => file.sync_all(),
+        Err(_) => Ok(()),
+    }
+}
+
+// Some file systems tell only when a file is closed or brought to its disk that a write failed.
+pub fn settle_output(rt: HostRuntime) {
+    if !is_file(rt) {
+        return;
+    }
+    if let Err(error) = sync_file(rt) {
+        say_incomplete(rt, error);
     }
 }

@@ -1,9 +1,11 @@
 // What the program says of itself.
 use crate::streams::print;
+use std::io::Write;
 
-pub fn print_usage(fd: i32) {
+pub fn print_usage<W: Write>(rt: HostRuntime, to: &mut W) {
     print(
-        fd,
+        rt,
+        to,
         b"usage: groups <INPUT
 Prints the balanced groups of a sweep, one a line, then the biggest, then how many.
 INPUT is bytes. The first is k: a group has two paths or more, at least k on each side.
@@ -22,6 +24,6 @@ groups --help prints this, groups --version the version.
     );
 }
 
-pub fn print_version() {
-    print(libc::STDOUT_FILENO, b"groups (Mastpickle) 4.1.0\n");
+pub fn print_version(rt: HostRuntime) {
+    print(rt, &mut rt.stdout(), b"groups (Mastpickle) 4.1.0\n");
 }

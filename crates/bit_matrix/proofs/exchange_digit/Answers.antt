@@ -1,12 +1,12 @@
 -- `bit_matrix::exchange_digit` meets its contract. The rows before `at` are exchanged. Assumes nothing.
-use Prim.Native.Nat.{ℕ, ◌+◌, ◌-◌, ◌*◌, ◌%◌, ◌^◌, ◌≤◌, ◌<◌}
+use Prim.Native.Nat.{ℕ, ◌+◌, ◌*◌, ◌%◌, ◌^◌, ◌≤◌, ◌<◌}
 use mathlib.Core.Path.{◌≡◌}
 use native.Mathlib.Omega.{arith}
 use borrow.Author.Rules.{rules}
 use lib.Pow.{pow_pos}
 use Rattle.vertex_set.proofs.Collections.{shifted}
 use Rattle.bit_matrix.proofs.Digits.{block_fits}
-use Rattle.bit_matrix.proofs.Transposition.{Exchanging, digit_start, digit_step, digit_end}
+use Rattle.bit_matrix.proofs.Transposition.{digit_start, digit_step, digit_end}
 use Rattle.bit_matrix.proofs.exchange_digit.Goals as goal
 
 -- what `1 << k` computes, and that the block at `at` has room

@@ -1,12 +1,6 @@
 -- `bit_matrix::exchange_digit` meets its contract. The rows before `at` are exchanged. Assumes nothing.
-use Prim.Native.Nat.{ℕ, ◌+◌, ◌-◌, ◌*◌, ◌%◌, ◌^◌, ◌≤◌, ◌<◌}
-use mathlib.Core.Path.{◌≡◌}
-use native.Mathlib.Omega.{arith}
-use borrow.Author.Rules.{rules}
-use lib.Pow.{pow_pos}
-use Rattle.vertex_set.proofs.Collections.{shifted}
-use Rattle.bit_matrix.proofs.Digits.{block_fits}
-use Rattle.bit_matrix.proofs.Transposition.{Exchanging, digit_start, digit_step, digit_end}
+use Prim.Native.Nat.{◌-◌, ◌≤◌}
+use Rattle.bit_matrix.proofs.Transposition.{Exchanging}
 use Rattle.bit_matrix.proofs.exchange_digit.Given as goal
 
 abbrev pub invariant-loop-at : goal.invariant-loop-at

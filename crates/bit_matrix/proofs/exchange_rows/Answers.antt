@@ -1,7 +1,6 @@
 -- `bit_matrix::exchange_rows` meets its contract. The rows before p are exchanged. Assumes nothing.
-use Prim.Native.Nat.{◌+◌, ◌-◌, ◌≤◌}
 use native.Mathlib.Omega.{arith}
-use Rattle.bit_matrix.specs.Transposition.{first_row, second_row, RowsExchanged}
+use Rattle.bit_matrix.specs.Transposition.{first_row, second_row}
 use Rattle.bit_matrix.proofs.Transposition.{exchange_start, exchange_step, exchange_end}
 use Rattle.bit_matrix.proofs.exchange_rows.Goals as goal
 

@@ -1,6 +1,5 @@
 -- `bounds::all_if_in` meets its contract. Assumes nothing.
 use mathlib.Core.Path.{sym, ap, ◌∙◌}
-use borrow.Author.Rules.{rules}
 use Rattle.bounds.specs.Bounds.{all_if}
 use Rattle.bounds.proofs.all_if_in.Goals as goal
 

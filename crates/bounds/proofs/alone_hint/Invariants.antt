@@ -1,6 +1,5 @@
 -- `bounds::alone_hint` ends, and within its bounds. There are at most 64 classes to look at. Assumes nothing.
 use Prim.Native.Nat.{◌-◌, ◌≤◌}
-use borrow.Author.Rules.{rules}
 use Rattle.bounds.proofs.alone_hint.Given as goal
 
 abbrev pub invariant-loop-near : goal.invariant-loop-near

@@ -1,5 +1,4 @@
 -- `bounds::branch_vertex` meets its contract. Assumes nothing.
-use borrow.Author.Rules.{rules}
 use Rattle.vertex_set.proofs.Membership.{meet_left}
 use Rattle.bounds.proofs.Branches.{lowest_among}
 use Rattle.bounds.proofs.branch_vertex.Goals as goal

@@ -1,5 +1,4 @@
 -- `bounds::colour_class` meets its contract. Assumes nothing.
-use borrow.Author.Rules.{rules}
 use Rattle.bounds.proofs.Colours.{both_picked}
 use Rattle.bounds.proofs.colour_class.Goals as goal
 

@@ -1,11 +1,9 @@
 -- `bounds::colours_within` meets its contract. The classes so far cover all vertices but those that are left. Assumes nothing.
-use Prim.Native.Nat.{◌-◌, ◌≤◌}
 use mathlib.Core.Path.{refl}
 use mathlib.Core.Bool.{false}
 use native.Mathlib.Omega.{arith}
-use borrow.Author.Rules.{rules}
 use Rattle.vertex_set.proofs.Booleans.{clash}
-use Rattle.bounds.proofs.Colours.{Coloured, coloured_begin, coloured_step, coloured_end}
+use Rattle.bounds.proofs.Colours.{coloured_begin, coloured_step, coloured_end}
 use Rattle.bounds.proofs.colours_within.Goals as goal
 
 pub loop-near-init : goal.loop-near-init
@@ -19,7 +17,7 @@ loop-near-preserved c =
     let class = c.colour_class-class in (
       omega arith,
       coloured_step _ _ _ _ _ _ _ c.loop-near.invariant.1 class.result class.ensures
-          c.struct_known-1.given.0.fits c.struct_known-in-loop-near-1.given.1.0.fits,
+          (omega arith) (omega arith),
     )
 
 pub returns : goal.returns

@@ -1,11 +1,6 @@
 -- `bounds::colours_within` meets its contract. The classes so far cover all vertices but those that are left. Assumes nothing.
 use Prim.Native.Nat.{◌-◌, ◌≤◌}
-use mathlib.Core.Path.{refl}
-use mathlib.Core.Bool.{false}
-use native.Mathlib.Omega.{arith}
-use borrow.Author.Rules.{rules}
-use Rattle.vertex_set.proofs.Booleans.{clash}
-use Rattle.bounds.proofs.Colours.{Coloured, coloured_begin, coloured_step, coloured_end}
+use Rattle.bounds.proofs.Colours.{Coloured}
 use Rattle.bounds.proofs.colours_within.Given as goal
 
 abbrev pub invariant-loop-near : goal.invariant-loop-near

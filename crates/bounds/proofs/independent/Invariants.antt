@@ -1,8 +1,6 @@
 -- `bounds::independent` meets its contract. What is left, and what is apart, is joined to no member. Assumes nothing.
-use native.Mathlib.Omega.{arith}
-use borrow.Author.Rules.{rules}
 use Rattle.vertex_set.specs.Sets.{size}
-use Rattle.bounds.proofs.Colours.{Picking, picking_begin, picking_small, picking_falls, picking_step, picking_end}
+use Rattle.bounds.proofs.Colours.{Picking}
 use Rattle.bounds.proofs.independent.Given as goal
 
 abbrev pub invariant-loop-left : goal.invariant-loop-left

@@ -5,7 +5,7 @@ use lib.Bits.{bit_and}
 use lib.ListN.{replicate}
 use native.Mathlib.Omega.{arith}
 use borrow.Author.Rules.{rules}
-use Rattle.bounds.proofs.SizeTables.{Tabling, tabling_begin, tabling_step, tabling_end, tabled_none}
+use Rattle.bounds.proofs.SizeTables.{tabling_begin, tabling_step, tabling_end, tabled_none}
 use Rattle.bounds.proofs.size_table.Goals as goal
 
 pub returns-then-n-gt64 : goal.returns-then-n-gt64

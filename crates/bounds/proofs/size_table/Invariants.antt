@@ -1,11 +1,5 @@
 -- `bounds::size_table` meets its contract. The table has bounds from v up. Assumes nothing.
-use Prim.Native.Nat.{ℕ}
-use mathlib.Core.Path.{refl, ap}
-use lib.Bits.{bit_and}
-use lib.ListN.{replicate}
-use native.Mathlib.Omega.{arith}
-use borrow.Author.Rules.{rules}
-use Rattle.bounds.proofs.SizeTables.{Tabling, tabling_begin, tabling_step, tabling_end, tabled_none}
+use Rattle.bounds.proofs.SizeTables.{Tabling}
 use Rattle.bounds.proofs.size_table.Given as goal
 
 abbrev pub invariant-loop-v : goal.invariant-loop-v

@@ -5,7 +5,6 @@ use mathlib.Core.Path.{◌≡◌, ap, ap₂, ◌∙◌}
 use mathlib.Core.List.{List, ◌++◌, append-nil}
 use lib.ListN.{length, get_or, take, drop, replicate, drop_of_length-le, length-drop}
 use lib.Seq.{length-take-le}
-use borrow.Author.Rules.{rules}
 use Rattle.c_words.specs.Graphs.{first_positive, first_negative, masked_at, graph_words, graph_at}
 use Rattle.c_words.proofs.graph_at.Goals as goal
 

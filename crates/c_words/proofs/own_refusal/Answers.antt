@@ -1,6 +1,5 @@
 -- `c_words::own_refusal` meets its contract. The test picks the definition's case. Assumes nothing.
 use mathlib.Core.Path.{◌∙◌}
-use borrow.Author.Rules.{rules}
 use borrow.Author.Tests.{lt-ltb, le-ltb}
 use Rattle.c_words.specs.Refusals.{answer_refusal, own_refusal}
 use Rattle.c_words.proofs.own_refusal.Goals as goal

@@ -1,9 +1,5 @@
 -- `c_words::put_words` meets its contract. Each turn copies a word. Assumes nothing.
-use Prim.Native.Nat.{◌-◌}
-use native.Mathlib.Omega.{arith}
-use borrow.Author.Rules.{rules}
-use lib.ListN.{length}
-use Rattle.vertex_set.proofs.Copies.{Copied, copied_none, copied_long, copied_room, copied_next, copied_all}
+use Rattle.vertex_set.proofs.Copies.{copied_none, copied_long, copied_room, copied_next, copied_all}
 use Rattle.c_words.proofs.put_words.Goals as goal
 
 pub loop-i-init : goal.loop-i-init

@@ -1,9 +1,7 @@
 -- `c_words::put_words` meets its contract. Each turn copies a word. Assumes nothing.
 use Prim.Native.Nat.{◌-◌}
-use native.Mathlib.Omega.{arith}
-use borrow.Author.Rules.{rules}
 use lib.ListN.{length}
-use Rattle.vertex_set.proofs.Copies.{Copied, copied_none, copied_long, copied_room, copied_next, copied_all}
+use Rattle.vertex_set.proofs.Copies.{Copied}
 use Rattle.c_words.proofs.put_words.Given as goal
 
 abbrev pub invariant-loop-i : goal.invariant-loop-i

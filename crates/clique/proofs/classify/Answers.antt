@@ -10,35 +10,13 @@ use Rattle.clique.proofs.VerdictWords.{no_verdict, as_first}
 use Rattle.clique.proofs.classify.Goals as goal
 
 pub classify_sound-requires : goal.classify_sound-requires
-classify_sound-requires c =
-    let k = c.check_call in
-    let a = c.args in
-    accepted_sound a.g a.k (sym k.ensures.0 ∙ c.in-Accepted.is)
+classify_sound-requires c = accepted_sound c.args.g c.args.k (sym c.check_call.ensures.answer ∙ c.in-Accepted.is)
 
-pub returns-in-Refused : goal.returns-in-Refused
-returns-in-Refused c =
-    let k = c.check_call in
-    let a = c.args in
-    let told = c.refusal-1.given in
-    let e = sym told.1 ∙ k.ensures.0 in
-    let v = verdict a.g a.k a.s in (
-      ap (λ (x : Check). classified_by x v) e,
-      (ap check_number (sym told.1) ∙ k.ensures.1, (ap (λ (x : Check). classified_values_by x v) e, λ w h. no_verdict told.0.0 w h)),
-    )
+pub returns-in-Refused-clause-words : goal.returns-in-Refused-clause-words
+returns-in-Refused-clause-words c = λ v h. no_verdict c.in-Refused.refusal v h
 
-pub returns-in-Accepted : goal.returns-in-Accepted
-returns-in-Accepted c =
-    let k = c.check_call in
-    let told = sym c.in-Accepted.is in
-    let e = told ∙ k.ensures.0 in
-    let so = to_sound c.args.g (accepted_sound c.args.g c.args.k (sym e)) in
-    let r = c.classify_sound in (
-      ap₂ classified_by e r.ensures,
-      (
-        ap check_number told ∙ k.ensures.1,
-        (
-          ap₂ classified_values_by e r.ensures,
-          as_first c.args.g so c.args.s c.ranges.s.fits c.args.k r.result r.ensures,
-        ),
-      ),
-    )
+pub returns-in-Accepted-clause-words : goal.returns-in-Accepted-clause-words
+returns-in-Accepted-clause-words c =
+    let k = c.args.k in
+    let so = to_sound c.args.g (accepted_sound c.args.g k (sym c.check_call.ensures.answer ∙ c.in-Accepted.is)) in
+    as_first c.args.g so c.args.s c.ranges.s.fits k c.classify_sound.result c.classify_sound.ensures

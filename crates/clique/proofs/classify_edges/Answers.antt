@@ -3,11 +3,10 @@ use mathlib.Core.Path.{refl, sym, ap, ◌∙◌}
 use Prim.Native.Nat.{◌<◌}
 use native.Mathlib.Omega.{arith}
 use borrow.Author.Rules.{rules}
-use Rattle.vertex_set.specs.Sets.{size}
 use Rattle.vertex_set.proofs.LowestVertex.{lowest_lt, size_rest}
 use Rattle.clique.specs.declared.Verdict.TheVariants.{MissingEdge}
 use Rattle.clique.specs.Verdicts.{lacks_edge}
-use Rattle.clique.proofs.FirstPairs.{Run, run_begin}
+use Rattle.clique.proofs.FirstPairs.{run_begin}
 use Rattle.clique.proofs.MissingEdges.{known_64, edges_step, edges_complete, says_missing, past_edges}
 use Rattle.clique.proofs.classify_edges.Goals as goal
 

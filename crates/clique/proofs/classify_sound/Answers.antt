@@ -1,12 +1,10 @@
 -- `clique::classify_sound` meets its contract. Empty, out of range, alone and masked here; else from the edges on. Assumes nothing.
-use Prim.Native.Nat.{ℕ}
 use mathlib.Core.Path.{◌≡◌, refl, sym, ap, ◌∙◌}
 use borrow.Author.Rules.{rules}
 use borrow.Author.Tests.{eq-eqb, ne_eqb}
 use lib.Dec.{eqb}
 use Rattle.vertex_set.specs.Sets.{size}
 use Rattle.vertex_set.proofs.Alternatives.{applies, passes_by}
-use Rattle.signed_graph.specs.declared.SignedGraph.{SignedGraph}
 use Rattle.clique.specs.declared.Verdict.TheVariants.{OutOfRange, Masked}
 use Rattle.clique.specs.Verdicts.{verdict}
 use Rattle.clique.specs.Stages.{from_masks}
@@ -15,24 +13,12 @@ use Rattle.clique.proofs.classify_sound.Goals as goal
 use Rattle.clique.proofs.classify_sound.Goals.{Else-size-eq1}
 
 -- where s has two vertices or more, all below n
-module _ (c : Else-size-eq1) where
-  abbrev b : tie.Start
-  b = c.before.before.before.before.before
-
-  abbrev g : SignedGraph
-  g = b.args.g
-
-  abbrev s : ℕ
-  s = b.args.s
-
-  abbrev u : ℕ
-  u = c.below.result
-
-  past-alone : verdict g b.args.k s ≡ from_masks g b.args.k s
-  past-alone =
-      past_range g b.pre s u _ b.fits.s.fits c.below.ensures refl b.args.k
-      c.if-s-eq0.false c.if-outside-ne0.false
-      ∙ passes_by (eqb (size s) 1) _ _ (ne_eqb (size s) 1 (λ e. c.if-size-eq1.false (c.size.ensures ∙ e)))
+past-alone : (c : Else-size-eq1) → verdict c.args.g c.args.k c.args.s ≡ from_masks c.args.g c.args.k c.args.s
+past-alone c =
+    let s = c.args.s in
+    past_range c.args.g c.requires s c.below.result _ c.ranges.s.fits c.below.ensures refl c.args.k
+    c.if-s-eq0.false c.if-outside-ne0.false
+    ∙ passes_by (eqb (size s) 1) _ _ (ne_eqb (size s) 1 (λ e. c.if-size-eq1.false (c.size.ensures ∙ e)))
 
 pub returns-then-s-eq0 : goal.returns-then-s-eq0
 unfolding verdict
@@ -55,20 +41,18 @@ returns-then-size-eq1 c =
 
 pub returns-then-masked-ne0 : goal.returns-then-masked-ne0
 returns-then-masked-ne0 c =
-    let e = (goal.at.returns-then-masked-ne0 c).Else-size-eq1 in
     ap Masked c.lowest-then-masked-ne0.ensures
-    ∙ sym (past-alone e ∙ says_masked (g e) (b e).requires (s e) (u e) _ (b e).ranges.s.fits c.below.ensures refl
-    _ refl (b e).args.k (search rules))
+    ∙ sym (past-alone (goal.at.returns-then-masked-ne0 c).Else-size-eq1
+    ∙ says_masked c.args.g c.requires c.args.s c.below.result _ c.ranges.s.fits c.below.ensures refl _ refl c.args.k (search rules))
 
 pub classify_edges-requires : goal.classify_edges-requires
 classify_edges-requires c =
-    let e = (goal.at.classify_edges-requires c).Else-size-eq1 in
-    masks_known (g e) (b e).requires (s e) (u e) _ (b e).ranges.s.fits c.below.ensures refl _ refl
+    masks_known c.args.g c.requires c.args.s c.below.result _ c.ranges.s.fits c.below.ensures refl _ refl
     c.if-s-eq0.false c.if-outside-ne0.false c.if-masked-ne0.false
 
 pub returns : goal.returns
 returns c =
-    let e = (goal.at.returns c).Else-size-eq1 in
     c.classify_edges.ensures
-    ∙ sym (past-alone e ∙ past_masks (g e) (b e).requires (s e) (u e) _ (b e).ranges.s.fits c.below.ensures refl
-    _ refl (b e).args.k c.if-masked-ne0.false)
+    ∙ sym (past-alone (goal.at.returns c).Else-size-eq1
+    ∙ past_masks c.args.g c.requires c.args.s c.below.result _ c.ranges.s.fits c.below.ensures refl _ refl c.args.k
+    c.if-masked-ne0.false)

@@ -3,17 +3,14 @@ use mathlib.Core.Path.{sym, ap, ◌∙◌}
 use Prim.Native.Nat.{◌<◌}
 use native.Mathlib.Omega.{arith}
 use borrow.Author.Rules.{rules}
-use Rattle.vertex_set.specs.Sets.{size, lowest}
-use Rattle.vertex_set.proofs.LowestVertex.{rest, lowest_lt, size_rest}
+use Rattle.vertex_set.proofs.LowestVertex.{lowest_lt, size_rest}
 use Rattle.clique.specs.declared.Verdict.TheVariants.{Unbalanced}
-use Rattle.clique.specs.Verdicts.{odd_triple}
-use Rattle.clique.proofs.FirstPairs.{Run}
 use Rattle.clique.proofs.MissingEdges.{known_64}
 use Rattle.clique.proofs.OddTriples.{triples_begin, odds_step, says_unbalanced, triples_sided, past_triples}
 use Rattle.clique.proofs.classify_triples.Goals as goal
 
 pub offset_bounds-g-a : goal.offset_bounds-g-a
-offset_bounds-g-a c = omega (arith, row-index (goal.at.offset_bounds-g-a c).After-lowest-a)
+offset_bounds-g-a c = omega (arith, c.lowest-a.ensures, lowest_lt _ c.requires.known.nonempty (known_64 c.requires.known))
 
 pub bounds-g-a : goal.bounds-g-a
 bounds-g-a c = omega (arith, c.lowest-a.ensures, lowest_lt _ c.requires.known.nonempty (known_64 c.requires.known))
@@ -40,7 +37,7 @@ returns-then-odd-ne0 c =
     let some : 0 < o.result = search rules in
     ap (Unbalanced a.result q.result) c.lowest.ensures
     ∙ sym (says_unbalanced c.requires l.invariant pos a.result q.result o.result a.ensures q.ensures o.ensures
-    c.args.k some o.type-inv)
+    c.args.k some o.type_inv)
 
 pub loop-left-smaller : goal.loop-left-smaller
 loop-left-smaller c = omega (arith, size_rest _ (search rules) c.loop-left.invariant.traversal.fits)

@@ -1,9 +1,8 @@
 -- `clique::common` meets its contract. The rows of the members that are not left are joined. Assumes nothing.
 use native.Mathlib.Omega.{arith}
 use borrow.Author.Rules.{rules}
-use Rattle.vertex_set.specs.Sets.{size}
 use Rattle.vertex_set.proofs.LowestVertex.{lowest_lt, size_rest}
-use Rattle.clique.proofs.CommonParts.{Joined, joined_begin, joined_step, joined_end}
+use Rattle.clique.proofs.CommonParts.{joined_begin, joined_step, joined_end}
 use Rattle.clique.proofs.common.Goals as goal
 
 pub loop-left-init : goal.loop-left-init

@@ -1,6 +1,5 @@
 -- `clique::joining` meets its contract. One common part within another. Assumes nothing.
 use mathlib.Core.Path.{ap, ◌∙◌}
-use borrow.Author.Rules.{rules}
 use Rattle.clique.specs.Stages.{common_part}
 use Rattle.clique.proofs.joining.Goals as goal
 

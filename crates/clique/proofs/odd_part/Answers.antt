@@ -3,7 +3,6 @@ use Prim.Native.Nat.{ℕ}
 use native.Mathlib.Nat.{lt_of_le_of_lt}
 use mathlib.Core.Path.{◌≡◌, sym, ap, ◌∙◌}
 use mathlib.Core.Bool.{Bool, true, false, not, ◌&&◌, beq, not-not}
-use borrow.Author.Rules.{rules}
 use lib.Bits.{bit_xor, and_le_l, xor_lt}
 use Rattle.vertex_set.specs.Sets.{mem}
 use Rattle.vertex_set.proofs.Booleans.{beq_true, beq_false, beq_not}

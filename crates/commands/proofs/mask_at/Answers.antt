@@ -1,7 +1,6 @@
 -- `commands::mask_at` meets its contract. Each test is the definition's check of its place. Assumes nothing.
 use native.Mathlib.Omega.{arith}
 use mathlib.Core.Path.{sym, ◌∙◌}
-use borrow.Author.Rules.{rules}
 use Rattle.commands.proofs.Steps.{mask_4, mask_5, fault_15, no_mask_fault}
 use Rattle.commands.proofs.mask_at.Goals as goal
 

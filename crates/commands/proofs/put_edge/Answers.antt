@@ -1,5 +1,4 @@
 -- `commands::put_edge` meets its contract. Each row that is stored is the definition's. Assumes nothing.
-use borrow.Author.Rules.{rules}
 use Rattle.commands.proofs.Tables.{stored_is}
 use Rattle.commands.proofs.put_edge.Goals as goal
 

@@ -1,5 +1,4 @@
 -- `commands::put_vertex` meets its contract. `1 << q` is the set of q. Assumes nothing.
-use borrow.Author.Rules.{rules}
 use Rattle.vertex_set.proofs.Collections.{single_pow}
 use Rattle.commands.proofs.put_vertex.Goals as goal
 

@@ -1,6 +1,5 @@
 -- `commands::refuse` meets its contract. The graph is that of no vertices. Assumes nothing.
 use mathlib.Core.Path.{ap}
-use borrow.Author.Rules.{rules}
 use Rattle.signed_graph.specs.declared.SignedGraph.{SignedGraph}
 use Rattle.commands.specs.declared.Outcome.TheVariants.{Refused}
 use Rattle.commands.proofs.refuse.Goals as goal

@@ -30,4 +30,4 @@ returns-else-sets-gt-MOST_SETS c =
     let a = c.args in
     let r = counted a.g a.k a.sets.now a.counts.now (sym c.check_call.ensures.answer ∙ c.in-Accepted.is)
     (le-ltb _ _ c.if-counts-sets.false) (le-ltb _ _ c.if-sets-gt-MOST_SETS.false) in
-    (r.0, (c.count_groups.ensures ∙ r.1.0, r.1.1))
+    record { answer = r.answer; counts = c.count_groups.ensures ∙ r.counts; number = r.number }

@@ -76,7 +76,7 @@ pub count_page-page-requires : goal.count_page-page-requires
 count_page-page-requires c =
     let h = c.loop-from.invariant in (
       c.requires.0,
-      omega (arith, c.requires.1, c.clear.auto.1.0, h.long),
+      omega (arith, c.requires.1, c.clear.auto.counts, h.long),
       λ j i. omega (arith, h.fits j i, length-take walk_records (due_groups c.args.g c.args.k c.loop-from.from)),
     )
 
@@ -84,7 +84,7 @@ pub shape_of-counts-in_default : goal.shape_of-counts-in_default
 shape_of-counts-in_default c =
     let z = c.clear in
     walking-long c.args.g c.args.k c.requires.0 c.args.sets.now _ c.loop-from.counts _ c.loop-from.from c.count_page-page.result
-    c.loop-from.invariant c.count_page-page.ensures.page c.count_page-page.ensures.counts ∙ z.auto.1.0
+    c.loop-from.invariant c.count_page-page.ensures.page c.count_page-page.ensures.counts ∙ z.auto.counts
 
 pub returns-in_default : goal.returns-in_default
 returns-in_default c =

@@ -27,10 +27,10 @@ use Rattle.counts.proofs.Tallies.{fold_length, fold_fits, fold_zeros, zeros_fit}
 use Rattle.counts.proofs.count_groups.Given as goal
 
 -- the groups before a bookmark are counted, and those that are due there can be
-record Walking (g : SignedGraph) (k : ℕ) (sets first counts : List ℕ) (from : Bookmark) : Type 0 where
-  long : length counts ≡ length first
-  fits : RoomFor (length (due_groups g k from)) sets counts
-  walked : WalkedGroups g k (raised_by sets) first from counts
+pub record Walking (g : SignedGraph) (k : ℕ) (sets first counts : List ℕ) (from : Bookmark) : Type 0 where
+  pub long : length counts ≡ length first
+  pub fits : RoomFor (length (due_groups g k from)) sets counts
+  pub walked : WalkedGroups g k (raised_by sets) first from counts
 
 abbrev pub invariant-loop-from : goal.invariant-loop-from
 invariant-loop-from l = Walking l.g l.k l.sets l.initial.counts l.counts l.from

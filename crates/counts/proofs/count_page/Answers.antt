@@ -45,32 +45,34 @@ pub overflow_mul-end : goal.overflow_mul-end
 overflow_mul-end c =
     let a = c.args in
     let p = c.list_page-page in
-    omega (arith, page_fits a.g a.k a.from walk_room p.result p.ensures.0)
+    omega (arith, page_fits a.g a.k a.from walk_room p.result p.ensures.answer)
 
 pub slice_bounds-space-end : goal.slice_bounds-space-end
 slice_bounds-space-end c =
     let a = c.args in
     let p = c.list_page-page in
-    omega (arith, p.auto.1.1.1.0, page_fits a.g a.k a.from walk_room p.result p.ensures.0)
+    omega (arith, p.auto.out, page_fits a.g a.k a.from walk_room p.result p.ensures.answer)
 
 pub slice_bounds-count_records-end : goal.slice_bounds-count_records-end
 slice_bounds-count_records-end c =
     let a = c.args in
     let p = c.list_page-page in
-    sym (length-take-le _ _ (omega (arith, p.auto.1.1.1.0, page_fits a.g a.k a.from walk_room p.result p.ensures.0)))
+    sym (length-take-le _ _ (omega (arith, p.auto.out, page_fits a.g a.k a.from walk_room p.result p.ensures.answer)))
 
 pub count_records-requires : goal.count_records-requires
 count_records-requires c =
     let a = c.args in
     let p = c.list_page-page in
-    let n = number_is a.g a.k a.from p.result _ c.requires.0 p.ensures.0 p.ensures.1.0 in
+    let n = number_is a.g a.k a.from p.result _ c.requires.0 p.ensures.answer p.ensures.bytes in
     (c.requires.1, λ j l. omega (arith, n, c.requires.2 j l))
 
 pub returns : goal.returns
 returns c =
     let a = c.args in
-    let p = c.list_page-page in (
-      p.ensures.0,
-      c.count_records.ensures
-          ∙ folds a.g a.k a.from p.result _ c.requires.0 p.ensures.0 p.ensures.1.0 a.sets.now a.counts.now,
-    )
+    let p = c.list_page-page in
+    record {
+      page = p.ensures.answer;
+      counts =
+          c.count_records.ensures
+          ∙ folds a.g a.k a.from p.result _ c.requires.0 p.ensures.answer p.ensures.bytes a.sets.now a.counts.now;
+    }

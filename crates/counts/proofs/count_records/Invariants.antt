@@ -14,10 +14,10 @@ use Rattle.counts.proofs.Tallies.{raised_length, raised_fits}
 use Rattle.counts.proofs.count_records.Given as goal
 
 -- the counts after i of n records, of which the others are to be counted
-record Counted (records sets before : List ℕ) (n : ℕ) (counts : List ℕ) (i : ℕ) : Type 0 where
-  long : length counts ≡ length before
-  fits : RoomFor (n - i) sets counts
-  folds : foldl (raised sets) counts (gather (n - i) i (vertices_at records)) ≡ foldl (raised sets) before (record_sets records)
+pub record Counted (records sets before : List ℕ) (n : ℕ) (counts : List ℕ) (i : ℕ) : Type 0 where
+  pub long : length counts ≡ length before
+  pub fits : RoomFor (n - i) sets counts
+  pub folds : foldl (raised sets) counts (gather (n - i) i (vertices_at records)) ≡ foldl (raised sets) before (record_sets records)
 
 abbrev pub invariant-loop-i : goal.invariant-loop-i
 invariant-loop-i l = Counted l.records l.sets l.initial.counts l.count l.counts l.i

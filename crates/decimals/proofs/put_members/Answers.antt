@@ -5,23 +5,12 @@ use mathlib.Core.Path.{◌≡◌, sym, ap, ◌∙◌}
 use mathlib.Core.List.{List, ◌++◌}
 use borrow.Author.Rules.{rules}
 use lib.ListN.{length-append}
-use Rattle.vertex_set.specs.Sets.{size, lowest, over_members}
+use Rattle.vertex_set.specs.Sets.{lowest, over_members}
 use Rattle.vertex_set.proofs.LowestVertex.{rest, rest_lt, size_rest}
 use Rattle.vertex_set.proofs.Gathering.{over_none, over_lowest}
-use Rattle.vertex_set.proofs.Buffers.{
-  Laid,
-  laid_start,
-  laid_as,
-  laid_room,
-  laid_long,
-  piece_room,
-  laid_piece,
-  laid_length,
-  laid_end,
-use Rattle.decimals.specs.Decimals.{between, members_between}
+use Rattle.vertex_set.proofs.Buffers.{laid_start, laid_as, laid_room, laid_long, piece_room, laid_piece, laid_length, laid_end}
+use Rattle.decimals.specs.Decimals.{between}
 use Rattle.decimals.proofs.put_members.Goals as goal
-
-}
 
 -- the lowest member comes next
 next : (f : ℕ → List ℕ) (s p : ℕ) → 0 < s → s < 2 ^ 64 → p ≡ lowest s → over_members s f ≡ f p ++ over_members (rest s) f
@@ -70,7 +59,7 @@ loop-left-preserved c =
     let f = between a.before.now a.after.now in (
       rest_lt 64 l.left l.invariant.0,
       laid_piece (f q.result) _ _ r.result (laid_as (next f _ _ (search rules) l.invariant.0 q.ensures) l.invariant.1)
-          r.ensures.0 r.ensures.1,
+          r.ensures.length r.ensures.bytes,
     )
 
 pub shape_of-out : goal.shape_of-out
@@ -82,4 +71,4 @@ returns c =
     let l = c.loop-left in
     let f = between a.before.now a.after.now in
     let e = laid_as (ap (λ (s : ℕ). over_members s f) c.loop-left-test.false ∙ over_none f) l.invariant.1 in
-    (laid_length e, laid_end e)
+    record { length = laid_length e; bytes = laid_end e }

@@ -3,7 +3,6 @@ use Prim.Native.Nat.{ℕ, ◌+◌, ◌-◌, ◌≤◌}
 use native.Mathlib.Omega.{arith}
 use mathlib.Core.Path.{◌≡◌, refl, sym}
 use mathlib.Core.List.{List, [], ◌++◌, append-nil}
-use borrow.Author.Rules.{rules}
 use borrow.Rule.Slice.PartMut.{put_mid}
 use lib.ListN.{length, take, drop, length-append}
 use Rattle.vertex_set.proofs.Buffers.{
@@ -16,10 +15,9 @@ use Rattle.vertex_set.proofs.Buffers.{
   laid_piece,
   laid_length,
   laid_end,
+}
 use Rattle.decimals.specs.Decimals.{decimal}
 use Rattle.decimals.proofs.put_number.Goals as goal
-
-}
 
 module _ (before : List ℕ) (n : ℕ) (after out : List ℕ) (room : length (before ++ (decimal n ++ after)) ≤ length out) where
   abbrev whole : List ℕ
@@ -62,7 +60,7 @@ overflow_add-end c =
     let a = c.args in
     let d = c.put_decimal-digits in
     let e = counted a.before.now a.n a.after.now a.out.now c.requires _ c.put_text.ensures
-    d.result d.ensures.0 _ d.ensures.1 in
+    d.result d.ensures.length _ d.ensures.bytes in
     omega (arith, laid_room e)
 
 pub slice_bounds-put_text-count : goal.slice_bounds-put_text-count
@@ -70,7 +68,7 @@ slice_bounds-put_text-count c =
     let a = c.args in
     let d = c.put_decimal-digits in
     let e = counted a.before.now a.n a.after.now a.out.now c.requires _ c.put_text.ensures
-    d.result d.ensures.0 _ d.ensures.1 in
+    d.result d.ensures.length _ d.ensures.bytes in
     omega (arith, laid_room e, laid_long e)
 
 pub slice_bounds-put_text-start : goal.slice_bounds-put_text-start
@@ -78,7 +76,7 @@ slice_bounds-put_text-start c =
     let a = c.args in
     let d = c.put_decimal-digits in
     let e = counted a.before.now a.n a.after.now a.out.now c.requires _ c.put_text.ensures
-    d.result d.ensures.0 _ d.ensures.1 in
+    d.result d.ensures.length _ d.ensures.bytes in
     omega (arith, laid_room e, laid_long e)
 
 pub put_text-requires-2 : goal.put_text-requires-2
@@ -86,7 +84,7 @@ put_text-requires-2 c =
     let a = c.args in
     let d = c.put_decimal-digits in
     let e = counted a.before.now a.n a.after.now a.out.now c.requires _ c.put_text.ensures
-    d.result d.ensures.0 _ d.ensures.1 in
+    d.result d.ensures.length _ d.ensures.bytes in
     piece_room a.after.now [] e
 
 pub overflow_add-result : goal.overflow_add-result
@@ -105,6 +103,6 @@ returns c =
     let a = c.args in
     let d = c.put_decimal-digits in
     let e = counted a.before.now a.n a.after.now a.out.now c.requires _ c.put_text.ensures
-    d.result d.ensures.0 _ d.ensures.1 in
+    d.result d.ensures.length _ d.ensures.bytes in
     let f = laid_piece a.after.now [] _ _ e refl c.put_text-2.ensures in
-    (laid_length f, laid_end f)
+    record { length = laid_length f; bytes = laid_end f }

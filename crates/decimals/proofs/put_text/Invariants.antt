@@ -1,8 +1,7 @@
 -- `decimals::put_text` meets its contract. The text is copied byte by byte. Assumes nothing.
 use Prim.Native.Nat.{◌-◌}
-use native.Mathlib.Omega.{arith}
 use lib.ListN.{length}
-use Rattle.vertex_set.proofs.Copies.{Copied, copied_none, copied_long, copied_room, copied_next, copied_all}
+use Rattle.vertex_set.proofs.Copies.{Copied}
 use Rattle.decimals.proofs.put_text.Given as goal
 
 abbrev pub invariant-loop-i : goal.invariant-loop-i

@@ -1,6 +1,5 @@
 -- `nodes::is_group` meets its contract. Each test is one of the definition's. Assumes nothing.
 use mathlib.Core.Path.{sym, ◌∙◌}
-use borrow.Author.Rules.{rules}
 use Rattle.nodes.proofs.Leaves.{not_extended, large_group}
 use Rattle.nodes.proofs.is_group.Goals as goal
 

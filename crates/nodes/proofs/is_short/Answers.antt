@@ -1,7 +1,6 @@
 -- `nodes::is_short` meets its contract. Assumes nothing.
 use mathlib.Core.Path.{refl, sym, ap, ◌∙◌}
 use mathlib.Core.Bool.{false, not}
-use borrow.Author.Rules.{rules}
 use Rattle.vertex_set.proofs.Booleans.{clash}
 use Rattle.nodes.specs.Nodes.{short}
 use Rattle.nodes.proofs.is_short.Goals as goal

@@ -1,5 +1,4 @@
 -- `nodes::join` meets its contract. Assumes nothing.
-use borrow.Author.Rules.{rules}
 use Rattle.nodes.proofs.join.Goals as goal
 
 pub returns : goal.returns

@@ -1,5 +1,4 @@
 -- `nodes::leave_out` meets its contract. Assumes nothing.
-use borrow.Author.Rules.{rules}
 use Rattle.nodes.proofs.leave_out.Goals as goal
 
 pub returns : goal.returns

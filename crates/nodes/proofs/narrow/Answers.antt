@@ -1,5 +1,4 @@
 -- `nodes::narrow` meets its contract. Assumes nothing.
-use borrow.Author.Rules.{rules}
 use Rattle.nodes.proofs.narrow.Goals as goal
 
 pub returns : goal.returns

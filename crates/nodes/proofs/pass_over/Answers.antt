@@ -1,5 +1,4 @@
 -- `nodes::pass_over` meets its contract. Assumes nothing.
-use borrow.Author.Rules.{rules}
 use Rattle.nodes.proofs.pass_over.Goals as goal
 
 pub returns : goal.returns

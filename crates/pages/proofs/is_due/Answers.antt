@@ -1,6 +1,5 @@
 -- `pages::is_due` meets its contract. Assumes nothing.
 use mathlib.Core.Path.{sym, ap, ◌∙◌}
-use borrow.Author.Rules.{rules}
 use Rattle.pages.specs.declared.Bookmark.{Bookmark}
 use Rattle.pages.specs.Pages.{due_at}
 use Rattle.pages.proofs.is_due.Goals as goal

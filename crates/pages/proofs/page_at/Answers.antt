@@ -1,5 +1,4 @@
 -- `pages::page_at` meets its contract. Assumes nothing.
-use borrow.Author.Rules.{rules}
 use Rattle.signed_graph.specs.declared.Check.TheVariants.{Accepted}
 use Rattle.pages.proofs.page_at.Goals as goal
 

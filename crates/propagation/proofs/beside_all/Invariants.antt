@@ -1,9 +1,6 @@
 -- `propagation::beside_all` meets its contract. What is kept fits beside the candidates that are not left. Assumes nothing.
-use native.Mathlib.Omega.{arith}
-use borrow.Author.Rules.{rules}
 use Rattle.vertex_set.specs.Sets.{size}
-use Rattle.vertex_set.proofs.LowestVertex.{lowest_lt, size_rest}
-use Rattle.propagation.proofs.FreeVertices.{Passing, passing_begin, passing_step, passing_end, beside_none}
+use Rattle.propagation.proofs.FreeVertices.{Passing}
 use Rattle.propagation.proofs.beside_all.Given as goal
 
 abbrev pub invariant-loop-left : goal.invariant-loop-left

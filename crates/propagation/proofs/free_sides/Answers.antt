@@ -1,5 +1,4 @@
 -- `propagation::free_sides` meets its contract: a pass over the candidates of each side. Assumes nothing.
-use borrow.Author.Rules.{rules}
 use Rattle.propagation.proofs.FreeVertices.{both_sides}
 use Rattle.propagation.proofs.free_sides.Goals as goal
 

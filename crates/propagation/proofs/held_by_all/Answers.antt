@@ -1,5 +1,4 @@
 -- `propagation::held_by_all` meets its contract. Assumes nothing.
-use borrow.Author.Rules.{rules}
 use Rattle.propagation.proofs.Advances.{held_by_all}
 use Rattle.propagation.proofs.held_by_all.Goals as goal
 

@@ -1,7 +1,6 @@
 -- `propagation::propagate` meets its contract. The node stands for the same groups after each step. Assumes nothing.
 use Prim.Native.Nat.{◌-◌}
-use borrow.Author.Rules.{rules}
-use Rattle.propagation.proofs.Advances.{Advanced, advanced_begin, advanced_fewer, advanced_advances, advanced_step, advanced_end}
+use Rattle.propagation.proofs.Advances.{Advanced}
 use Rattle.propagation.proofs.propagate.Given as goal
 
 abbrev pub invariant-loop-steps : goal.invariant-loop-steps

@@ -1,7 +1,6 @@
 -- `propagation::propagate_unless` meets its contract. Assumes nothing.
-use borrow.Author.Rules.{rules}
 use Rattle.propagation.proofs.Advances.{advance_begin}
 use Rattle.propagation.proofs.propagate_unless.Goals as goal
 
 pub returns-then-on_the_way : goal.returns-then-on_the_way
-returns-then-on_the_way c = (λ p m. m, advance_begin _ _ _ _)
+returns-then-on_the_way c = record { subset = λ p m. m; advances = advance_begin _ _ _ _ }

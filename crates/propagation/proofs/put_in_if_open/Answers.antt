@@ -1,6 +1,5 @@
 -- `propagation::put_in_if_open` meets its contract. Assumes nothing.
 use mathlib.Core.Path.{sym, ap, ◌∙◌}
-use borrow.Author.Rules.{rules}
 use Rattle.vertex_set.specs.Sets.{mem}
 use Rattle.propagation.proofs.Settling.{open_put, open_stay}
 use Rattle.propagation.proofs.put_in_if_open.Goals as goal

@@ -1,9 +1,6 @@
 -- `propagation::required` meets its contract. Those found so far are each the only one that some excluded vertex does not fit beside.
-use native.Mathlib.Omega.{arith}
-use borrow.Author.Rules.{rules}
 use Rattle.vertex_set.specs.Sets.{size}
-use Rattle.vertex_set.proofs.LowestVertex.{lowest_lt, size_rest}
-use Rattle.propagation.proofs.SoleConflicts.{Requiring, requiring_begin, requiring_step}
+use Rattle.propagation.proofs.SoleConflicts.{Requiring}
 use Rattle.propagation.proofs.required.Given as goal
 
 abbrev pub invariant-loop-left : goal.invariant-loop-left

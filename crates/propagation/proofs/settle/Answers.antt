@@ -1,25 +1,24 @@
 -- `propagation::settle` meets its contract. The vertices that are not left are in, as far as they fit. Assumes nothing.
 use native.Mathlib.Omega.{arith}
 use borrow.Author.Rules.{rules}
-use Rattle.vertex_set.specs.Sets.{size}
 use Rattle.vertex_set.proofs.LowestVertex.{lowest_lt, size_rest}
-use Rattle.propagation.proofs.Settling.{Settled, settled_begin, settled_step}
+use Rattle.propagation.proofs.Settling.{settled_begin, settled_step}
 use Rattle.propagation.proofs.settle.Goals as goal
 
 pub loop-left-init : goal.loop-left-init
 loop-left-init c = settled_begin _ _ _ _ c.ranges.held.fits
 
 pub offset_bounds-positive-u : goal.offset_bounds-positive-u
-offset_bounds-positive-u c = record { fits = omega (arith, small (goal.at.offset_bounds-positive-u c).After-lowest-u) }
+offset_bounds-positive-u c = omega (arith, c.lowest-u.ensures, lowest_lt _ (search rules) c.loop-left.invariant.traversal.fits)
 
 pub bounds-positive-u : goal.bounds-positive-u
 bounds-positive-u c = omega (arith, c.lowest-u.ensures, lowest_lt _ (search rules) c.loop-left.invariant.traversal.fits)
 
 pub offset_bounds-negative-u : goal.offset_bounds-negative-u
-offset_bounds-negative-u c = record { fits = omega (arith, small (goal.at.offset_bounds-negative-u c).After-lowest-u) }
+offset_bounds-negative-u c = omega (arith, c.lowest-u.ensures, lowest_lt _ (search rules) c.loop-left.invariant.traversal.fits)
 
 pub bounds-negative-u : goal.bounds-negative-u
-bounds-negative-u c = small (goal.at.bounds-negative-u c).After-lowest-u
+bounds-negative-u c = omega (arith, c.lowest-u.ensures, lowest_lt _ (search rules) c.loop-left.invariant.traversal.fits)
 
 pub loop-left-smaller : goal.loop-left-smaller
 loop-left-smaller c = omega (arith, size_rest _ (search rules) c.loop-left.invariant.traversal.fits)
@@ -30,4 +29,4 @@ loop-left-preserved c =
     c.put_in_if_open-node.result c.put_in_if_open-node.ensures
 
 pub returns : goal.returns
-returns c = (c.loop-left.invariant.fewer, c.loop-left.invariant.stands)
+returns c = record { subset = c.loop-left.invariant.fewer; settles = c.loop-left.invariant.stands }

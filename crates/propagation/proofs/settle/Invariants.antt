@@ -1,9 +1,6 @@
 -- `propagation::settle` meets its contract. The vertices that are not left are in, as far as they fit. Assumes nothing.
-use native.Mathlib.Omega.{arith}
-use borrow.Author.Rules.{rules}
 use Rattle.vertex_set.specs.Sets.{size}
-use Rattle.vertex_set.proofs.LowestVertex.{lowest_lt, size_rest}
-use Rattle.propagation.proofs.Settling.{Settled, settled_begin, settled_step}
+use Rattle.propagation.proofs.Settling.{Settled}
 use Rattle.propagation.proofs.settle.Given as goal
 
 abbrev pub invariant-loop-left : goal.invariant-loop-left

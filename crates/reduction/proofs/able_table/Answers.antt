@@ -1,12 +1,8 @@
 -- `reduction::able_table` meets its contract. The rows before p are filled with their able vertices. Assumes nothing.
-use Prim.Native.Nat.{◌-◌, ◌≤◌}
 use native.Mathlib.Omega.{arith}
 use mathlib.Core.Path.{refl}
-use mathlib.Core.Bool.{◌&&◌}
 use borrow.Author.Rules.{rules}
-use lib.ListN.{get_or}
-use Rattle.vertex_set.specs.Sets.{mem}
-use Rattle.bit_matrix.proofs.Matrices.{Filled, fill_begin, fill_step, fill_end}
+use Rattle.bit_matrix.proofs.Matrices.{fill_begin, fill_step, fill_end}
 use Rattle.reduction.specs.RoundTables.{able_table}
 use Rattle.reduction.proofs.RoundTables.{able_row}
 use Rattle.reduction.proofs.able_table.Goals as goal

@@ -1,7 +1,6 @@
 -- `reduction::choose` meets its contract. The test picks the definition's case. Assumes nothing.
 use mathlib.Core.Path.{sym, ap, ◌∙◌}
 use mathlib.Core.Bool.{Bool, cond}
-use borrow.Author.Rules.{rules}
 use Rattle.reduction.proofs.choose.Goals as goal
 
 pub returns-then-contains : goal.returns-then-contains

@@ -1,10 +1,8 @@
 -- `reduction::differing` meets its contract. The rows before p that are equal are struck out. Assumes nothing.
-use Prim.Native.Nat.{◌-◌, ◌≤◌}
 use mathlib.Core.Path.{ap}
 use mathlib.Core.Bool.{not}
 use native.Mathlib.Omega.{arith}
-use borrow.Author.Rules.{rules}
-use Rattle.reduction.proofs.Striking.{Comparing, comparing_begin, comparing_step, comparing_end}
+use Rattle.reduction.proofs.Striking.{comparing_begin, comparing_step, comparing_end}
 use Rattle.reduction.proofs.differing.Goals as goal
 
 pub loop-p-init : goal.loop-p-init

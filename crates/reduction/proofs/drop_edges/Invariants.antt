@@ -1,11 +1,8 @@
 -- `reduction::drop_edges` meets its contract. The edges with a vertex that is left are still to be judged. Assumes nothing.
-use native.Mathlib.Omega.{arith}
-use borrow.Author.Rules.{rules}
 use lib.ListN.{get_or}
 use Rattle.vertex_set.specs.Sets.{size}
-use Rattle.vertex_set.proofs.LowestVertex.{lowest_lt, rest, rest_lt, size_rest}
-use Rattle.reduction.specs.RoundTables.{shares, kept_table}
-use Rattle.reduction.proofs.Judging.{Judging, judging_begin, mem_out, whole_row, judging_step, judging_end}
+use Rattle.reduction.specs.RoundTables.{shares}
+use Rattle.reduction.proofs.Judging.{Judging}
 use Rattle.reduction.proofs.drop_edges.Given as goal
 
 abbrev pub invariant-loop-left : goal.invariant-loop-left

@@ -4,7 +4,6 @@ use native.Mathlib.Nat.{pos_of_ne-zero}
 use native.Mathlib.Omega.{arith}
 use mathlib.Core.Path.{sym, ap, ◌∙◌}
 use mathlib.Core.Bool.{not}
-use borrow.Author.Rules.{rules}
 use borrow.Author.Tests.{ne_eqb, eqb-false, leb-true, le-leb, not-true}
 use lib.Dec.{leb, eqb}
 use Rattle.vertex_set.specs.Sets.{size}

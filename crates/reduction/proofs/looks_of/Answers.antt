@@ -3,7 +3,6 @@
 use native.Mathlib.Omega.{arith}
 use mathlib.Core.Path.{sym, subst}
 use borrow.Author.Rules.{rules}
-use Rattle.vertex_set.specs.Sets.{size}
 use Rattle.vertex_set.proofs.LowestVertex.{lowest_lt, size_rest}
 use Rattle.signed_graph.proofs.Soundness.{to_sound}
 use Rattle.reduction.proofs.LookCounts.{Counting, counting_begin, counting_step, counting_end}
@@ -30,7 +29,9 @@ bounds-g-p-in-loop-left c = omega (arith, c.lowest-p.ensures, lowest_lt _ (searc
 pub overflow_add-total : goal.overflow_add-total
 overflow_add-total c =
     let a = c.args in
-    omega (arith, (loop-again (goal.at.overflow_add-total c).After-size-total-in-loop-left).adds, looks_at_most a.g a.look)
+    let p = c.lowest-p in
+    let n = c.size-total-in-loop-left in
+    omega (arith, (counting_step a.g a.look c.loop-left.invariant (search rules) p.result n.result p.ensures n.ensures).adds, looks_at_most a.g a.look)
 
 pub loop-left-smaller : goal.loop-left-smaller
 loop-left-smaller c = omega (arith, size_rest _ (search rules) c.loop-left.invariant.traversal.fits)

@@ -1,9 +1,8 @@
 -- `reduction::part` meets its contract. The rows of the vertices that are not left have lost p. Assumes nothing.
 use native.Mathlib.Omega.{arith}
 use borrow.Author.Rules.{rules}
-use Rattle.vertex_set.specs.Sets.{size}
 use Rattle.vertex_set.proofs.LowestVertex.{lowest_lt, size_rest}
-use Rattle.reduction.proofs.Parting.{Parting, parting_begin, parting_step, parting_end}
+use Rattle.reduction.proofs.Parting.{parting_begin, parting_step, parting_end}
 use Rattle.reduction.proofs.part.Goals as goal
 
 pub loop-left-init : goal.loop-left-init

@@ -3,10 +3,6 @@ use Prim.Native.Nat.{ℕ, ◌+◌, ◌<◌}
 use native.Mathlib.Omega.{arith}
 use mathlib.Core.Bool.{true}
 use mathlib.Core.Path.{◌≡◌, sym, ap, ap₂, ◌∙◌, subst}
-use mathlib.Core.Logic.{⊎_elim}
-use borrow.Author.Rules.{rules}
-use borrow.Author.Tests.{eqb-true}
-use Rattle.vertex_set.specs.Sets.{below}
 use Rattle.signed_graph.specs.declared.SignedGraph.{SignedGraph}
 use Rattle.signed_graph.specs.declared.Check.TheVariants.{Accepted}
 use Rattle.signed_graph.specs.Graphs.{edge_count}
@@ -20,27 +16,21 @@ use Rattle.reduction.proofs.Reductions.{zero_fits}
 use Rattle.reduction.proofs.Looks.{none_looked, none_dropped}
 use Rattle.reduction.proofs.Reaching.{Reached, reached_first, reached_sound, reached_most, reached_next, reached_graph, reached_looks}
 use Rattle.reduction.proofs.reduce_sound.Goals as goal
-use Rattle.reduction.proofs.reduce_sound.Goals.{At-loop-seen, Joined-g-ne0}
-
--- what the first round starts with
-module _ (j : Joined-g-ne0) where
-  abbrev s : tie.Start invariant-loop decreases-loop
-  s = j.before.before.before
-
-  abbrev g : SignedGraph
-  g = s.args.g
-
-  first : j.if-g-ne0.kept ≡ unmasked g
-  first =
-      ⊎_elim (λ w. w.2 ∙ w.1.ensures) (λ w. w.1 ∙ sym (unmasked_none g (to_sound g s.pre) w.0.left)) j.if-g-ne0.branch
+use Rattle.reduction.proofs.reduce_sound.Goals.{At-loop-seen, then-g-ne0, else-g-ne0, then-k-eq0-via-then-k-eq0, then-k-eq0-via-else-k-eq0+then-seen-size}
 
 -- what the loop has reached
-reached : (l : At-loop-seen) → Reached (g l.before) (s l.before).args.k l.loop-seen.kept l.loop-seen.look l.loop-seen.total
+reached : (l : At-loop-seen) → Reached l.args.g l.args.k l.loop-seen.kept l.loop-seen.look l.loop-seen.total
 reached l =
-    l.loop-seen.invariant (g l.before) (s l.before).requires (first l.before) l.below-look.ensures
+    let g = l.args.g in
+    let first : l.if-g-ne0.kept ≡ unmasked g =
+    elim l.if-g-ne0.branch [
+      | then-g-ne0 w ↦ w.kept-is ∙ w.without_masked-kept.ensures
+      | else-g-ne0 w ↦ w.kept-is ∙ sym (unmasked_none g (to_sound g l.requires) w.if-g-ne0.false)
+    ] in
+    l.loop-seen.invariant g l.requires first l.below-look.ensures
 
 kept-sound : (l : At-loop-seen) → Sound l.loop-seen.kept
-kept-sound l = reached_sound (to_sound (g l.before) (s l.before).pre) (reached l)
+kept-sound l = reached_sound (to_sound l.args.g l.requires) (reached l)
 
 -- it was the last round
 ends : (g : SignedGraph) (k : ℕ) (so : sound g ≡ true) {kept : SignedGraph} {look total : ℕ} (seen : ℕ) → Reached g k kept look total
@@ -58,8 +48,7 @@ looks_of-seen-requires c = from_sound _ (kept-sound (goal.at.looks_of-seen-requi
 
 pub overflow_add-total : goal.overflow_add-total
 overflow_add-total c =
-    let l = (goal.at.overflow_add-total c).At-loop-seen in
-    omega (arith, c.looks_of-seen.ensures, reached_most (to_sound (g (goal.at.overflow_add-total c).Joined-g-ne0) (s (goal.at.overflow_add-total c).Joined-g-ne0).pre) (reached l))
+    omega (arith, c.looks_of-seen.ensures, reached_most (to_sound c.args.g c.requires) (reached (goal.at.overflow_add-total c).At-loop-seen))
 
 pub round-next-requires : goal.round-next-requires
 round-next-requires c = from_sound _ (kept-sound (goal.at.round-next-requires c).At-loop-seen)
@@ -67,33 +56,33 @@ round-next-requires c = from_sound _ (kept-sound (goal.at.round-next-requires c)
 pub loop-seen-smaller : goal.loop-seen-smaller
 loop-seen-smaller c =
     let r = c.round-next in
-    let at = (goal.at.loop-seen-smaller c).At-loop-seen in
-    subst (λ (h : SignedGraph). edge_count h < edge_count c.loop-seen.kept) (sym r.ensures.0)
-    (falls c.loop-seen.kept (s (goal.at.loop-seen-smaller c).Joined-g-ne0).args.k c.loop-seen.look (kept-sound at) (omega (arith, r.ensures.1, c.if-next-eq0.false)))
+    let l = c.loop-seen in
+    subst (λ (h : SignedGraph). edge_count h < edge_count l.kept) (sym r.ensures.graph_value)
+    (falls l.kept c.args.k l.look (kept-sound (goal.at.loop-seen-smaller c).At-loop-seen) (omega (arith, r.ensures.fallen_value, c.if-next-eq0.false)))
 
 pub loop-seen-preserved : goal.loop-seen-preserved
 loop-seen-preserved c g so first all =
     let r = c.round-next in
-    rw (r.ensures.0, r.ensures.1, c.looks_of-seen.ensures)
-    (reached_next (to_sound g so) (c.loop-seen.invariant g so first all) (λ z. c.if-next-eq0.false (r.ensures.1 ∙ z)))
+    rw (r.ensures.graph_value, r.ensures.fallen_value, c.looks_of-seen.ensures)
+    (reached_next (to_sound g so) (c.loop-seen.invariant g so first all) (λ z. c.if-next-eq0.false (r.ensures.fallen_value ∙ z)))
 
 pub returns-then-k-eq0 : goal.returns-then-k-eq0
 returns-then-k-eq0 c =
     let n = c.looks_of-seen in
-    let at = (goal.at.returns-then-k-eq0 c).At-loop-seen in
     let l = c.loop-seen in
-    let b = s (goal.at.returns-then-k-eq0 c).Joined-g-ne0 in
-    let k = b.args.k in
+    let at = (goal.at.returns-then-k-eq0 c).At-loop-seen in
     let sh = kept-sound at in
-    let none : fallen l.auto k l.look ≡ 0 =
-    ⊎_elim
-    (λ w. subst (λ (k : ℕ). fallen l.auto k l.look ≡ 0) (sym w.taken) (none_dropped l.auto 0 l.look sh (zero_fits (all_edges l.auto))))
-    (λ w. none_looked l.auto k l.look sh (sym n.ensures ∙ eqb-true n.result w.1.result w.2.taken ∙ w.1.ensures)) c.then-k-eq0.branch in
-    ends b.args.g k b.pre n.result (reached at) n.ensures none
+    let none : fallen l.kept c.args.k l.look ≡ 0 =
+    elim c.then-k-eq0.branch [
+      | then-k-eq0-via-then-k-eq0 w ↦
+          subst (λ (k : ℕ). fallen l.kept k l.look ≡ 0) (sym w.if-k-eq0.true) (none_dropped l.kept 0 l.look sh (zero_fits (all_edges l.kept)))
+      | then-k-eq0-via-else-k-eq0+then-seen-size w ↦
+          none_looked l.kept c.args.k l.look sh (sym n.ensures ∙ w.if-seen-size.true ∙ w.size.ensures)
+    ] in
+    ends c.args.g c.args.k c.requires n.result (reached at) n.ensures none
 
 pub returns-then-next-eq0 : goal.returns-then-next-eq0
 returns-then-next-eq0 c =
-    let r = c.round-next in
-    let at = (goal.at.returns-then-next-eq0 c).At-loop-seen in
-    let b = s (goal.at.returns-then-next-eq0 c).Joined-g-ne0 in
-    ends b.args.g b.args.k b.pre c.looks_of-seen.result (reached at) c.looks_of-seen.ensures (sym r.ensures.1 ∙ c.if-next-eq0.true)
+    let n = c.looks_of-seen in
+    ends c.args.g c.args.k c.requires n.result (reached (goal.at.returns-then-next-eq0 c).At-loop-seen) n.ensures
+    (sym c.round-next.ensures.fallen_value ∙ c.if-next-eq0.true)

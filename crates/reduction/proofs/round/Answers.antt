@@ -1,6 +1,5 @@
 -- `reduction::round` meets its contract. Its tables are those of the definition's round. Assumes nothing.
 use mathlib.Core.Path.{◌∙◌}
-use borrow.Author.Rules.{rules}
 use Rattle.reduction.proofs.RoundTables.{positive_due, negative_due, round_made}
 use Rattle.reduction.proofs.round.Goals as goal
 
@@ -17,4 +16,4 @@ returns c =
     let made =
     round_made c.args.g _ _ _ _ c.requires c.less-few.ensures c.less-fewer.ensures _ _ _ _ _ c.sift_both-able.ensures
     c.able_table-positive.ensures c.able_table-negative.ensures c.drop_edges.ensures c.drop_edges-2.ensures in
-    (made.0, c.differing-fallen.ensures ∙ made.1)
+    record { graph_value = made.0; fallen_value = c.differing-fallen.ensures ∙ made.1 }

@@ -7,7 +7,7 @@ use lib.ListN.{get_or}
 use Rattle.vertex_set.specs.Sets.{size}
 use Rattle.vertex_set.proofs.LowestVertex.{lowest_lt, size_rest}
 use Rattle.reduction.specs.RoundTables.{reaches}
-use Rattle.reduction.proofs.Striking.{sifted_whole, Sifting, sifting_begin, sifting_step, sifting_end}
+use Rattle.reduction.proofs.Striking.{sifted_whole, sifting_begin, sifting_step, sifting_end}
 use Rattle.reduction.proofs.sift.Goals as goal
 
 pub returns-then-x-eq0 : goal.returns-then-x-eq0

@@ -1,13 +1,7 @@
 -- `reduction::sift` meets its contract. The members that are not left and failed are struck out. Assumes nothing.
-use native.Mathlib.Omega.{arith}
-use borrow.Author.Rules.{rules}
-use borrow.Author.Tests.{le-leb}
-use lib.Bits.{bit_and}
-use lib.ListN.{get_or}
 use Rattle.vertex_set.specs.Sets.{size}
-use Rattle.vertex_set.proofs.LowestVertex.{lowest_lt, size_rest}
 use Rattle.reduction.specs.RoundTables.{reaches}
-use Rattle.reduction.proofs.Striking.{sifted_whole, Sifting, sifting_begin, sifting_step, sifting_end}
+use Rattle.reduction.proofs.Striking.{Sifting}
 use Rattle.reduction.proofs.sift.Given as goal
 
 abbrev pub invariant-loop-left : goal.invariant-loop-left

@@ -1,7 +1,6 @@
 -- `reduction::sift_both` meets its contract. One test after the other is both. Assumes nothing.
 use mathlib.Core.Path.{ap, ◌∙◌}
 use Prim.Native.Nat.{ℕ}
-use borrow.Author.Rules.{rules}
 use Rattle.reduction.specs.RoundTables.{reaches, sifted}
 use Rattle.reduction.proofs.Striking.{sifted_twice}
 use Rattle.reduction.proofs.sift_both.Goals as goal

@@ -1,5 +1,4 @@
 -- `reduction::strike` meets its contract. By membership in the set without p. Assumes nothing.
-use borrow.Author.Rules.{rules}
 use Rattle.reduction.proofs.Striking.{stay, strike_out}
 use Rattle.reduction.proofs.strike.Goals as goal
 

@@ -1,5 +1,4 @@
 -- `reduction::without_masked` meets its contract. Each table keeps its able vertices, those that are not masked. Assumes nothing.
-use borrow.Author.Rules.{rules}
 use Rattle.signed_graph.proofs.Soundness.{to_sound}
 use Rattle.reduction.proofs.Masking.{unmasked_made}
 use Rattle.reduction.proofs.without_masked.Goals as goal

@@ -17,11 +17,10 @@ use Rattle.vertex_set.proofs.Buffers.{
   laid_store,
   laid_length,
   laid_end,
+}
 use Rattle.report.specs.Lines.{group_line}
 use Rattle.report.proofs.Words.{left_part, right_part, group_parts}
 use Rattle.report.proofs.put_group.Goals as goal
-
-}
 
 module _ (l r : ℕ) (out : List ℕ) (room : length (group_line l r) ≤ length out) where
   -- what comes behind the bar

@@ -16,12 +16,11 @@ use Rattle.vertex_set.proofs.Buffers.{
   front_is,
   front_room,
   front_length,
+}
 use Rattle.report.specs.Lines.{fault_line}
 use Rattle.report.proofs.Words.{refused_part, place_part, fault_parts, length_refused, length_place}
 use Rattle.report.proofs.Written.{wrote_as}
 use Rattle.report.proofs.write_fault.Goals as goal
-
-}
 
 abbrev none : List ℕ
 none = replicate 64 0

@@ -16,12 +16,11 @@ use Rattle.vertex_set.proofs.Buffers.{
   front_is,
   front_room,
   front_length,
+}
 use Rattle.report.specs.Lines.{biggest_word, group_line, largest_line, longest_line}
 use Rattle.report.proofs.Words.{largest_parts, length_group}
 use Rattle.report.proofs.Written.{wrote_as}
 use Rattle.report.proofs.write_largest.Goals as goal
-
-}
 
 abbrev name : List ℕ
 name = biggest_word ++ 0x20 ∷ []

@@ -1,10 +1,6 @@
 -- `requests::is_same` meets its contract. What is left of both tells whether they are the same. Assumes nothing.
-use Prim.Native.Nat.{◌-◌, ◌≤◌}
 use native.Mathlib.Omega.{arith}
-use mathlib.Core.Path.{◌≡◌, refl, sym, ◌∙◌}
-use borrow.Author.Rules.{rules}
-use lib.ListN.{length, drop}
-use Rattle.requests.specs.Requests.{same_bytes}
+use mathlib.Core.Path.{refl, sym, ◌∙◌}
 use Rattle.requests.proofs.SameBytes.{other_length, other_byte, same_byte, nothing_left}
 use Rattle.requests.proofs.is_same.Goals as goal
 

@@ -1,11 +1,8 @@
 -- `requests::is_same` meets its contract. What is left of both tells whether they are the same. Assumes nothing.
 use Prim.Native.Nat.{◌-◌, ◌≤◌}
-use native.Mathlib.Omega.{arith}
-use mathlib.Core.Path.{◌≡◌, refl, sym, ◌∙◌}
-use borrow.Author.Rules.{rules}
+use mathlib.Core.Path.{◌≡◌}
 use lib.ListN.{length, drop}
 use Rattle.requests.specs.Requests.{same_bytes}
-use Rattle.requests.proofs.SameBytes.{other_length, other_byte, same_byte, nothing_left}
 use Rattle.requests.proofs.is_same.Given as goal
 
 abbrev pub invariant-loop-i : goal.invariant-loop-i

@@ -3,7 +3,6 @@ use Prim.Native.Nat.{ℕ, ◌≤◌, ◌<◌}
 use mathlib.Core.Path.{◌≡◌, sym, ◌∙◌}
 use mathlib.Core.Bool.{true, false}
 use mathlib.Core.List.{List}
-use borrow.Author.Rules.{rules}
 use borrow.Author.Tests.{lt-ltb, le-ltb}
 use Rattle.vertex_set.proofs.Alternatives.{applies, passes_by}
 use Rattle.requests.specs.declared.Request.TheVariants.{Groups, Help, Version, Unknown}
@@ -38,6 +37,12 @@ module _ (count : ℕ) (first : List ℕ) where
           sym
           (passes_by _ _ _ (le-ltb count 2 h) ∙ passes_by _ _ _ (le-ltb 2 count i) ∙ passes_by _ _ _ (sym e)
           ∙ passes_by _ _ _ (sym f))
+
+pub returns-then-count-lt2 : goal.returns-then-count-lt2
+returns-then-count-lt2 c = none _ _ c.if-count-lt2.true
+
+pub returns-then-count-gt2 : goal.returns-then-count-gt2
+returns-then-count-gt2 c = many _ _ c.if-count-lt2.false c.if-count-gt2.true
 
 pub returns-then-is_same : goal.returns-then-is_same
 returns-then-is_same c =

@@ -2,7 +2,6 @@
 use Prim.Native.Nat.{ℕ, ◌-◌, ◌^◌}
 use mathlib.Core.Path.{ap, ◌∙◌}
 use lib.Bits.{bit_and, bit_or}
-use borrow.Author.Rules.{rules}
 use Rattle.signed_graph.proofs.EdgeCounts.{above_is, above_none}
 use Rattle.signed_graph.proofs.members_above.Goals as goal
 

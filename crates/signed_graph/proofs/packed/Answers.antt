@@ -1,11 +1,9 @@
 -- `signed_graph::packed` meets its contract. The rows before p are filled. Assumes nothing.
-use Prim.Native.Nat.{◌-◌, ◌≤◌}
 use native.Mathlib.Omega.{arith}
 use mathlib.Core.Path.{refl}
 use borrow.Author.Rules.{rules}
-use lib.ListN.{get_or}
-use Rattle.bit_matrix.proofs.Matrices.{Filled, fill_begin, fill_step, fill_end}
-use Rattle.signed_graph.specs.Rows.{packs, packed_row, packed}
+use Rattle.bit_matrix.proofs.Matrices.{fill_begin, fill_step, fill_end}
+use Rattle.signed_graph.specs.Rows.{packed_row, packed}
 use Rattle.signed_graph.proofs.packed.Goals as goal
 
 pub loop-p-init : goal.loop-p-init

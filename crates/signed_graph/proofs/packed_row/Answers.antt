@@ -1,5 +1,4 @@
 -- `signed_graph::packed_row` meets its contract. By `packed_row_is`. Assumes nothing.
-use borrow.Author.Rules.{rules}
 use Rattle.signed_graph.proofs.PackedTables.{packed_row_is}
 use Rattle.signed_graph.proofs.packed_row.Goals as goal
 

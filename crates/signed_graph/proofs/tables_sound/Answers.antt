@@ -1,16 +1,13 @@
 -- `signed_graph::tables_sound` meets its contract. The rows of the vertices below p are sound. Assumes nothing.
 use mathlib.Core.Path.{◌≡◌, refl, sym, ap, ◌∙◌}
-use mathlib.Core.Bool.{Bool, true}
 use mathlib.Core.List.{List}
-use Prim.Native.Nat.{ℕ, ◌-◌, ◌≤◌}
+use Prim.Native.Nat.{ℕ}
 use native.Mathlib.Omega.{arith}
 use borrow.Author.Rules.{rules}
-use borrow.Author.Tests.{not-true, not-false}
-use lib.ListN.{get_or}
 use Rattle.vertex_set.specs.Ranges.{all}
 use Rattle.vertex_set.proofs.Ranges.{all_more, all_end, all_fails}
 use Rattle.bit_matrix.specs.Matrices.{transposed}
-use Rattle.signed_graph.specs.Rows.{packed, rows_sound, tables_sound}
+use Rattle.signed_graph.specs.Rows.{packed, tables_sound}
 use Rattle.signed_graph.proofs.tables_sound.Goals as goal
 use Rattle.signed_graph.proofs.tables_sound.Invariants.{test}
 
@@ -27,14 +24,14 @@ loop-p-init c = (omega arith, refl)
 pub returns-then-not-rows_sound : goal.returns-then-not-rows_sound
 returns-then-not-rows_sound c =
     let s = c.rows_sound in
-    sym (all_fails _ 64 c.loop-p.p (search rules) (sym s.ensures ∙ not-true s.result c.if-not-rows_sound.true-raw))
+    sym (all_fails _ 64 c.loop-p.p (search rules) (sym s.ensures ∙ c.if-not-rows_sound.true))
     ∙ all-tests _ _ _ _ _ c.transpose-columns.ensures c.packed.ensures
 
 pub loop-p-preserved : goal.loop-p-preserved
 loop-p-preserved c =
     let s = c.rows_sound in
     let l = c.loop-p in
-    (omega arith, all_more _ l.p l.invariant.1 (sym s.ensures ∙ not-false s.result c.if-not-rows_sound.false-raw))
+    (omega arith, all_more _ l.p l.invariant.1 (sym s.ensures ∙ c.if-not-rows_sound.false))
 
 pub returns : goal.returns
 returns c =

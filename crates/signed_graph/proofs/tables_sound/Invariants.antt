@@ -1,16 +1,11 @@
 -- `signed_graph::tables_sound` meets its contract. The rows of the vertices below p are sound. Assumes nothing.
-use mathlib.Core.Path.{◌≡◌, refl, sym, ap, ◌∙◌}
+use mathlib.Core.Path.{◌≡◌}
 use mathlib.Core.Bool.{Bool, true}
 use mathlib.Core.List.{List}
 use Prim.Native.Nat.{ℕ, ◌-◌, ◌≤◌}
-use native.Mathlib.Omega.{arith}
-use borrow.Author.Rules.{rules}
-use borrow.Author.Tests.{not-true, not-false}
 use lib.ListN.{get_or}
 use Rattle.vertex_set.specs.Ranges.{all}
-use Rattle.vertex_set.proofs.Ranges.{all_more, all_end, all_fails}
-use Rattle.bit_matrix.specs.Matrices.{transposed}
-use Rattle.signed_graph.specs.Rows.{packed, rows_sound, tables_sound}
+use Rattle.signed_graph.specs.Rows.{rows_sound}
 use Rattle.signed_graph.proofs.tables_sound.Given as goal
 
 abbrev pub test : List ℕ → List ℕ → ℕ → List ℕ → ℕ → Bool

@@ -1,7 +1,7 @@
 -- `words::read_word` meets its contract. The bytes from i on are read. Assumes nothing.
 use Prim.Native.Nat.{◌-◌}
 use native.Mathlib.Omega.{arith}
-use Rattle.words.proofs.Words.{Reading, reading_start, reading_fits, reading_next, reading_end}
+use Rattle.words.proofs.Words.{reading_start, reading_fits, reading_next, reading_end}
 use Rattle.words.proofs.read_word.Goals as goal
 
 pub loop-i-init : goal.loop-i-init

@@ -1,10 +1,7 @@
 -- `words::write_word` meets its contract. The bytes of what is left of x are to come. Assumes nothing.
 use Prim.Native.Nat.{◌-◌, ◌≤◌}
-use native.Mathlib.Omega.{arith}
-use borrow.Author.Rules.{rules}
-use Rattle.vertex_set.proofs.Buffers.{Laid, laid_start, laid_as, laid_long, laid_store, laid_end}
+use Rattle.vertex_set.proofs.Buffers.{Laid}
 use Rattle.words.specs.Words.{word_bytes}
-use Rattle.words.proofs.Words.{bytes_next, bytes_none}
 use Rattle.words.proofs.write_word.Given as goal
 
 abbrev pub invariant-loop-at : goal.invariant-loop-at
