@@ -129,7 +129,13 @@ fn checked(rt: HostRuntime, letter: u8, count: usize) -> Result<u8> {
 }
 
 // Runs a case on a graph, and returns the graph for the next one.
-fn run_case(rt: HostRuntime, letter: u8, x: &[u8; MOST], count: usize, g: SignedGraph) -> Result<SignedGraph> {
+fn run_case(
+    rt: HostRuntime,
+    letter: u8,
+    x: &[u8; MOST],
+    count: usize,
+    g: SignedGraph,
+) -> Result<SignedGraph> {
     match letter {
         b'd' => edge_lists::decode(rt, x, count),
         b'g' => Ok(edge_lists::of_rows(x)),

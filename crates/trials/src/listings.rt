@@ -15,7 +15,12 @@ fn print_page(rt: HostRuntime, page: Page) -> Result<()> {
 }
 
 // Lists a page into a buffer of so many bytes.
-pub fn list(rt: HostRuntime, x: &[u8; MOST], from: Bookmark, g: SignedGraph) -> Result<SignedGraph> {
+pub fn list(
+    rt: HostRuntime,
+    x: &[u8; MOST],
+    from: Bookmark,
+    g: SignedGraph,
+) -> Result<SignedGraph> {
     let mut space = [FILL; ROOM];
     let room = within(number(x, 1), &space);
     let buffer = &mut space[..room];

@@ -6,4 +6,4 @@ use Rattle.groups.proofs.print_closing.Goals as goal
 pub slice_bounds-print-end : goal.slice_bounds-print-end
 slice_bounds-print-end c =
     front_length (closing_text c.args.closing) _ _ c.put_closing-end.result c.put_closing-end.ensures.length
-      c.put_closing-end.ensures.bytes
+    c.put_closing-end.ensures.bytes

@@ -55,20 +55,20 @@ overflow_add-count c =
     omega (
       arith,
       few c.args.g c.args.k c.requires c.loop-rt.from c.loop-rt.count c.print_page-printed.result.page c.loop-rt.invariant
-        c.print_page-printed.ensures,
+          c.print_page-printed.ensures,
     )
 
 pub returns-in_default : goal.returns-in_default
 returns-in_default c =
     last c.args.g c.args.k c.requires c.loop-rt.from c.loop-rt.count c.print_page-printed.result.page c.loop-rt.invariant
-      c.print_page-printed.ensures c.in_default.is
+    c.print_page-printed.ensures c.in_default.is
 
 pub loop-rt-smaller : goal.loop-rt-smaller
 loop-rt-smaller c =
     page_fewer c.args.g c.args.k c.requires c.loop-rt.from page_room c.print_page-printed.result.page
-      c.print_page-printed.ensures (omega arith) c.in-More.is
+    c.print_page-printed.ensures (omega arith) c.in-More.is
 
 pub loop-rt-preserved : goal.loop-rt-preserved
 loop-rt-preserved c =
     next c.args.g c.args.k c.requires c.loop-rt.from c.loop-rt.count c.print_page-printed.result.page c.loop-rt.invariant
-      c.print_page-printed.ensures
+    c.print_page-printed.ensures
