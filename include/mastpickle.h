@@ -3,7 +3,7 @@
  *
  * Link with target/staticlib/libmastpickle.a, which `make lib` builds (x86-64 Linux). Every
  * function here is proved to meet its contract, which stands at the function in
- * crates/mastpickle/src/lib.rt.
+ * crates/mastpickle_c/src/lib.rt.
  *
  * A set of vertices is balanced where every two of them have an edge and it splits in two sides,
  * positive edges inside a side and negative ones across. A group for threshold k is a balanced set

@@ -10,7 +10,7 @@ use lib.Bits.{bit_and, and_le_l}
 use borrow.Author.Tests.{lt-ltb, le-ltb, le-leb, lt-leb, ne_eqb}
 use Rattle.vertex_set.proofs.Alternatives.{applies, passes_by}
 use Rattle.vertex_set.specs.Ranges.{seek}
-use Rattle.vertex_set.specs.Sets.{mem, size, lowest, below}
+use Rattle.vertex_set.specs.Sets.{mem, lowest, below}
 use Rattle.vertex_set.proofs.Ranges.{none_seek}
 use Rattle.vertex_set.proofs.Membership.{mem_lt, mem_none, mem_and, mem_minus}
 use Rattle.vertex_set.proofs.Collections.{below_lt, mem_below}

@@ -1,12 +1,11 @@
 // Standard input and output: reading and writing that tell a failure.
 ghost use Rattle.std.specs.Prelude.{◌≡◌, ◌≤◌, length};
 
-use std::fs;
 use std::fs::OpenOptions;
 use std::io::{Cursor, Error, ErrorKind, Read, Result, Write};
 use std::str::from_utf8;
-use std::thread;
 use std::time::Duration;
+use std::{fs, thread};
 
 // How far reading or writing came.
 #[derive(Clone, Copy)]

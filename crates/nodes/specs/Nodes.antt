@@ -1,5 +1,5 @@
 -- For proofs: a node of the search for groups: sides so far, how they grow, what holds of them, and the groups below. Assumes nothing.
-use Rattle.std.specs.Prelude.{ℕ, ◌-◌, ◌≤◌, ◌<◌, ◌≡◌, ◌≢◌, Bool, true, false, not, ◌&&◌, ◌||◌, List, eqb, get_or}
+use Rattle.std.specs.Prelude.{ℕ, ◌≤◌, ◌<◌, ◌≡◌, ◌≢◌, Bool, true, false, not, ◌&&◌, ◌||◌, List, eqb, get_or}
 use Rattle.std.specs.Int.Bits.{bit_and, bit_or}
 use Rattle.vertex_set.specs.Lists.{select}
 use Rattle.vertex_set.specs.Sets.{mem, Subset, within, size, single, others}

@@ -10,7 +10,8 @@ use Rattle.report.proofs.Words.{number_parts}
 
 -- a line is written: what a call returns, and what it leaves in the buffer that held `before`
 abbrev pub Wrote : List ℕ → List ℕ → ℕ → List ℕ → Type 0
-Wrote line before r out = (r ≡ written_length line (length before)) × (out ≡ written_line line before)
+Wrote line before r out =
+    record { length : r ≡ written_length line (length before); bytes : out ≡ written_line line before }
 
 pub wrote_as : {x y : List ℕ} → x ≡ y → (before : List ℕ) (r : ℕ) (out : List ℕ) → Wrote x before r out → Wrote y before r out
 wrote_as e before r out w = subst (λ (line : List ℕ). Wrote line before r out) e w

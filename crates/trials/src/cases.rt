@@ -5,6 +5,7 @@ ghost use Rattle.std.specs.Prelude.{◌≤◌, ◌<◌, length};
 use crate::{calls, counting, edge_lists, listings};
 use pages::Bookmark;
 use signed_graph::SignedGraph;
+use std::io::Result;
 
 // The most bytes of a case.
 pub const MOST: usize = 128;
@@ -119,41 +120,47 @@ fn is_proper(letter: u8, count: usize) -> bool {
 }
 
 // The letter of a proper line. Another line is marked, and taken for no case.
-fn checked(letter: u8, count: usize) -> u8 {
+fn checked(rt: HostRuntime, letter: u8, count: usize) -> Result<u8> {
     if is_proper(letter, count) {
-        return letter;
+        return Ok(letter);
     }
-    io::write_all(1, b"malformed: ");
-    b'#'
+    print!(rt; "malformed: ")?;
+    Ok(b'#')
 }
 
 // Runs a case on a graph, and returns the graph for the next one.
-fn run_case(letter: u8, x: &[u8; MOST], count: usize, g: SignedGraph) -> SignedGraph {
+fn run_case(
+    rt: HostRuntime,
+    letter: u8,
+    x: &[u8; MOST],
+    count: usize,
+    g: SignedGraph,
+) -> Result<SignedGraph> {
     match letter {
-        b'd' => edge_lists::decode(x, count),
-        b'g' => edge_lists::of_rows(x),
-        b'e' => edge_lists::encode(x, g),
-        b'r' => calls::reduce(x, g),
-        b'l' => calls::largest(x, g),
-        b'c' => calls::classify(x, g),
-        b'p' => listings::list(x, Bookmark::Start, g),
-        b'a' => listings::list(x, Bookmark::After(word(x, 2)), g),
-        b'i' => listings::record(x, g),
-        b'n' => counting::count(x, g),
-        _ => g,
+        b'd' => edge_lists::decode(rt, x, count),
+        b'g' => Ok(edge_lists::of_rows(x)),
+        b'e' => edge_lists::encode(rt, x, g),
+        b'r' => calls::reduce(rt, x, g),
+        b'l' => calls::largest(rt, x, g),
+        b'c' => calls::classify(rt, x, g),
+        b'p' => listings::list(rt, x, Bookmark::Start, g),
+        b'a' => listings::list(rt, x, Bookmark::After(word(x, 2)), g),
+        b'i' => listings::record(rt, x, g),
+        b'n' => counting::count(rt, x, g),
+        _ => Ok(g),
     }
 }
 
 // Prints a line and what its call answers, and returns the graph for the next one.
-pub fn run_line(line: &[u8], g: SignedGraph) -> SignedGraph
+pub fn run_line(rt: HostRuntime, line: &[u8], g: SignedGraph) -> Result<SignedGraph>
     requires { 1 ≤ length line.now }
 {
     let mut bytes = [0u8; MOST];
     let start: usize = 1;
     let count = read_bytes(&line[start..], &mut bytes);
-    let letter = checked(line[0], count);
-    io::write_all(1, line);
-    let next = run_case(letter, &bytes, count, g);
-    io::write_all(1, b"\n");
-    next
+    let letter = checked(rt, line[0], count)?;
+    rt.write_all(line)?;
+    let next = run_case(rt, letter, &bytes, count, g)?;
+    println!(rt)?;
+    Ok(next)
 }

@@ -1,10 +1,10 @@
 // Graphs through `count_containing`.
-ghost use Rattle.std.specs.Prelude.{◌≤◌};
-ghost use Rattle.io.specs.Counts.{IsPrefixLen};
+ghost use Rattle.std.specs.Prelude.{◌≡◌, ◌≤◌, length, take};
 
 use crate::cases::{MOST, number, word};
 use crate::printing::{FILL, print_counts, print_outcome};
 use signed_graph::SignedGraph;
+use std::io::Result;
 
 // The most sets of a case, and the most places for counts.
 const PLACES: usize = 300;
@@ -21,7 +21,8 @@ fn two_bytes(x: &[u8; MOST], start: usize) -> u64
 
 // The number n, or how many words there are where that is less.
 fn words_within(n: u64, words: &[u64]) -> usize
-    ensures { IsPrefixLen result words.now }
+    ensures in_bounds { result ≤ length words.now }
+    ensures taken { result ≡ length (take result words.now) }
 {
     let length = words.len();
     if n < length as u64 {
@@ -40,7 +41,7 @@ fn put_sets(sets: &mut [u64]) {
 }
 
 // Counts into so many places for so many sets: 0, 1, 2 and so on, but the last is all 64 vertices.
-pub fn count(x: &[u8; MOST], g: SignedGraph) -> SignedGraph {
+pub fn count(rt: HostRuntime, x: &[u8; MOST], g: SignedGraph) -> Result<SignedGraph> {
     let mut set_space = [ALL; PLACES];
     let sets_end = words_within(two_bytes(x, 1), &set_space);
     let sets = &mut set_space[..sets_end];
@@ -49,7 +50,7 @@ pub fn count(x: &[u8; MOST], g: SignedGraph) -> SignedGraph {
     let counts_end = words_within(two_bytes(x, 3), &count_space);
     let counts = &mut count_space[..counts_end];
     let outcome = counts::count_containing(g, number(x, 0), sets, counts);
-    print_outcome(outcome.number());
-    print_counts(counts);
-    g
+    print_outcome(rt, outcome.number())?;
+    print_counts(rt, counts)?;
+    Ok(g)
 }

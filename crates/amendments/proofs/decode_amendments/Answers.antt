@@ -1,7 +1,6 @@
 -- `amendments::decode_amendments` meets its contract. Each test is the definition's check of the opening. Assumes nothing.
 use native.Mathlib.Omega.{arith}
 use mathlib.Core.Path.{◌∙◌}
-use borrow.Author.Rules.{rules}
 use Rattle.amendments.proofs.Openings.{fault_4_opening, fault_2, opened}
 use Rattle.amendments.proofs.decode_amendments.Goals as goal
 

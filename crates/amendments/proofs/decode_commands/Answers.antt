@@ -1,13 +1,12 @@
 -- `amendments::decode_commands` meets its contract. The graph is that of the commands before the place reached. Assumes nothing.
-use Prim.Native.Nat.{◌+◌, ◌-◌}
+use Prim.Native.Nat.{◌+◌}
 use native.Mathlib.Omega.{arith}
 use mathlib.Core.Path.{refl, sym, ◌∙◌}
-use mathlib.Core.Logic.{⊎_elim}
-use lib.ListN.{length, length-drop}
-use borrow.Author.Rules.{rules}
+use lib.ListN.{length-drop}
 use Rattle.vertex_set.proofs.Buffers.{part_from_law}
-use Rattle.amendments.proofs.Decoding.{Reached, reached_begin, reached_end, reached_close, reached_refusal, reached_low, reached_edge_room, reached_positive, reached_negative, reached_mask_room, reached_mask}
+use Rattle.amendments.proofs.Decoding.{reached_begin, reached_end, reached_close, reached_refusal, reached_low, reached_edge_room, reached_positive, reached_negative, reached_mask_room, reached_mask}
 use Rattle.amendments.proofs.decode_commands.Goals as goal
+use Rattle.amendments.proofs.decode_commands.Goals.{in-Positive, in-Negative}
 
 pub loop-at-init : goal.loop-at-init
 loop-at-init c =
@@ -53,13 +52,14 @@ loop-at-smaller-in-Edge c =
 
 pub loop-at-preserved-in-Edge : goal.loop-at-preserved-in-Edge
 loop-at-preserved-in-Edge c =
-    let e = c.in-Edge.is in
-    ⊎_elim
-    (λ w. reached_positive c.loop-at-test.true c.loop-at.invariant c.checked_as.ensures c.step_by-step.ensures e
-    w.1.given.1 w.3.ensures w.5.ensures w.6)
-    (λ w. reached_negative c.loop-at-test.true c.loop-at.invariant c.checked_as.ensures c.step_by-step.ensures e
-    w.1.given.1 w.3.ensures w.5.ensures w.6)
-    c.match-sign.branch
+    elim c.match-sign.branch [
+      | in-Positive w ↦
+          reached_positive c.loop-at-test.true c.loop-at.invariant c.checked_as.ensures c.step_by-step.ensures c.in-Edge.is
+          w.in-Positive.is w.put_edge.ensures w.put_edge-in-Positive.ensures w.graph-is
+      | in-Negative w ↦
+          reached_negative c.loop-at-test.true c.loop-at.invariant c.checked_as.ensures c.step_by-step.ensures c.in-Edge.is
+          w.in-Negative.is w.put_edge-in-Negative.ensures w.put_edge-in-Negative-2.ensures w.graph-is
+    ]
 
 pub overflow_add-at-in-Mask : goal.overflow_add-at-in-Mask
 overflow_add-at-in-Mask c =

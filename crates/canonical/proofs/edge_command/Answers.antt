@@ -1,7 +1,6 @@
 -- `canonical::edge_command` meets its contract. The test picks the sign. Assumes nothing.
 use mathlib.Core.Path.{sym, ap, ◌∙◌}
 use mathlib.Core.Bool.{Bool}
-use borrow.Author.Rules.{rules}
 use Rattle.commands.specs.Entries.{command_byte}
 use Rattle.canonical.specs.EdgeRows.{sign_by}
 use Rattle.canonical.proofs.edge_command.Goals as goal

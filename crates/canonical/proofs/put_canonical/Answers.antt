@@ -6,7 +6,6 @@ use mathlib.Core.Path.{◌≡◌}
 use mathlib.Core.List.{List, [], ◌∷◌, ◌++◌}
 use lib.ListN.{length, take, drop, set, length-set}
 use borrow.Rule.Slice.PartMut.{put_mid}
-use borrow.Author.Rules.{rules}
 use Rattle.vertex_set.specs.Buffers.{overwritten}
 use Rattle.vertex_set.proofs.Buffers.{Laid, laid_start, laid_as, laid_room, laid_long, piece_room, laid_piece, laid_store, laid_end}
 use Rattle.signed_graph.specs.declared.SignedGraph.{SignedGraph}
@@ -69,37 +68,37 @@ put_rows-edges-requires c =
 pub overflow_add-behind : goal.overflow_add-behind
 overflow_add-behind c =
     let r = c.put_rows-edges in
-    omega (arith, laid_room (joined c.args.g c.args.out.now c.requires.1 r.ensures.0 r.ensures.1))
+    omega (arith, laid_room (joined c.args.g c.args.out.now c.requires.1 r.ensures.length r.ensures.bytes))
 
 pub slice_bounds-put_masks-count : goal.slice_bounds-put_masks-count
 slice_bounds-put_masks-count c =
     let r = c.put_rows-edges in
-    let e = joined c.args.g c.args.out.now c.requires.1 r.ensures.0 r.ensures.1 in
+    let e = joined c.args.g c.args.out.now c.requires.1 r.ensures.length r.ensures.bytes in
     omega (arith, laid_room e, laid_long e)
 
 pub slice_bounds-put_masks-start : goal.slice_bounds-put_masks-start
 slice_bounds-put_masks-start c =
     let r = c.put_rows-edges in
-    let e = joined c.args.g c.args.out.now c.requires.1 r.ensures.0 r.ensures.1 in
+    let e = joined c.args.g c.args.out.now c.requires.1 r.ensures.length r.ensures.bytes in
     omega (arith, laid_room e, laid_long e)
 
 pub put_masks-masks-requires : goal.put_masks-masks-requires
 put_masks-masks-requires c =
     let r = c.put_rows-edges in
     let g = c.args.g in
-    piece_room (masks g) (0xff ∷ []) (joined g c.args.out.now c.requires.1 r.ensures.0 r.ensures.1)
+    piece_room (masks g) (0xff ∷ []) (joined g c.args.out.now c.requires.1 r.ensures.length r.ensures.bytes)
 
 pub overflow_add-close : goal.overflow_add-close
 overflow_add-close c =
     let r = c.put_rows-edges in
     let m = c.put_masks-masks in
-    omega (arith, laid_room (filled c.args.g c.args.out.now c.requires.1 r.ensures.0 r.ensures.1 m.ensures.0 m.ensures.1))
+    omega (arith, laid_room (filled c.args.g c.args.out.now c.requires.1 r.ensures.length r.ensures.bytes m.ensures.length m.ensures.bytes))
 
 pub bounds-out-close : goal.bounds-out-close
 bounds-out-close c =
     let r = c.put_rows-edges in
     let m = c.put_masks-masks in
-    let e = filled c.args.g c.args.out.now c.requires.1 r.ensures.0 r.ensures.1 m.ensures.0 m.ensures.1 in
+    let e = filled c.args.g c.args.out.now c.requires.1 r.ensures.length r.ensures.bytes m.ensures.length m.ensures.bytes in
     omega (arith, laid_room e, laid_long e)
 
 pub shape_of-out : goal.shape_of-out
@@ -107,11 +106,11 @@ shape_of-out c =
     let r = c.put_rows-edges in
     let m = c.put_masks-masks in
     laid_long (laid_store 0xff []
-    (filled c.args.g c.args.out.now c.requires.1 r.ensures.0 r.ensures.1 m.ensures.0 m.ensures.1))
+    (filled c.args.g c.args.out.now c.requires.1 r.ensures.length r.ensures.bytes m.ensures.length m.ensures.bytes))
 
 pub returns : goal.returns
 returns c =
     let r = c.put_rows-edges in
     let m = c.put_masks-masks in
     laid_end (laid_store 0xff []
-    (filled c.args.g c.args.out.now c.requires.1 r.ensures.0 r.ensures.1 m.ensures.0 m.ensures.1))
+    (filled c.args.g c.args.out.now c.requires.1 r.ensures.length r.ensures.bytes m.ensures.length m.ensures.bytes))

@@ -1,11 +1,9 @@
 -- `canonical::put_edges` meets its contract. The edges to the members that are left are to come. Assumes nothing.
-use Prim.Native.Nat.{◌^◌, ◌<◌}
 use native.Mathlib.Omega.{arith}
 use mathlib.Core.Path.{refl}
 use mathlib.Core.List.{[], ◌∷◌}
 use borrow.Author.Rules.{rules}
-use Rattle.vertex_set.specs.Sets.{size}
-use Rattle.vertex_set.proofs.Buffers.{Laid, laid_start, laid_as, laid_room, laid_long, piece_room, laid_piece, laid_length, laid_end}
+use Rattle.vertex_set.proofs.Buffers.{laid_start, laid_as, laid_room, laid_long, piece_room, laid_piece, laid_length, laid_end}
 use Rattle.vertex_set.proofs.LowestVertex.{lowest_lt, rest_lt, size_rest}
 use Rattle.commands.specs.Entries.{entry_bytes}
 use Rattle.canonical.specs.EdgeRows.{edges_to}
@@ -65,4 +63,4 @@ returns c =
     let a = c.args in
     let l = c.loop-left in
     let e = laid_as (bytes_none a.positive a.p l.left c.loop-left-test.false) l.invariant.1 in
-    (laid_length e, laid_end e)
+    record { length = laid_length e; bytes = laid_end e }

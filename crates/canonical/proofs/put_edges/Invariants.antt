@@ -1,15 +1,9 @@
 -- `canonical::put_edges` meets its contract. The edges to the members that are left are to come. Assumes nothing.
 use Prim.Native.Nat.{◌^◌, ◌<◌}
-use native.Mathlib.Omega.{arith}
-use mathlib.Core.Path.{refl}
-use mathlib.Core.List.{[], ◌∷◌}
-use borrow.Author.Rules.{rules}
 use Rattle.vertex_set.specs.Sets.{size}
-use Rattle.vertex_set.proofs.Buffers.{Laid, laid_start, laid_as, laid_room, laid_long, piece_room, laid_piece, laid_length, laid_end}
-use Rattle.vertex_set.proofs.LowestVertex.{lowest_lt, rest_lt, size_rest}
+use Rattle.vertex_set.proofs.Buffers.{Laid}
 use Rattle.commands.specs.Entries.{entry_bytes}
 use Rattle.canonical.specs.EdgeRows.{edges_to}
-use Rattle.canonical.proofs.Rows.{bytes_none, bytes_lowest}
 use Rattle.canonical.proofs.put_edges.Given as goal
 
 abbrev pub invariant-loop-left : goal.invariant-loop-left

@@ -5,7 +5,7 @@ use mathlib.Core.Path.{◌≡◌}
 use mathlib.Core.List.{List, ◌∷◌}
 use lib.ListN.{length, set, length-set}
 use borrow.Author.Rules.{rules}
-use Rattle.vertex_set.specs.Sets.{size, lowest}
+use Rattle.vertex_set.specs.Sets.{lowest}
 use Rattle.vertex_set.proofs.Buffers.{Laid, laid_start, laid_as, laid_room, laid_long, laid_store, laid_length, laid_end}
 use Rattle.vertex_set.proofs.LowestVertex.{lowest_lt, rest, rest_lt, size_rest}
 use Rattle.commands.specs.Entries.{entry_bytes}
@@ -62,4 +62,4 @@ pub returns : goal.returns
 returns c =
     let l = c.loop-left in
     let e = laid_as (masks_none l.left c.loop-left-test.false) l.invariant.1 in
-    (laid_length e, laid_end e)
+    record { length = laid_length e; bytes = laid_end e }

@@ -1,10 +1,9 @@
 -- `canonical::put_rows` meets its contract. The edges from p on are to come. Assumes nothing.
-use Prim.Native.Nat.{◌+◌, ◌-◌, ◌≤◌}
+use Prim.Native.Nat.{◌+◌}
 use native.Mathlib.Omega.{arith}
 use mathlib.Core.Path.{ap}
-use borrow.Author.Rules.{rules}
 use lib.ListN.{get_or, length-append}
-use Rattle.vertex_set.proofs.Buffers.{Laid, laid_start, laid_as, laid_room, laid_long, piece_room, laid_piece, laid_length, laid_end}
+use Rattle.vertex_set.proofs.Buffers.{laid_start, laid_as, laid_room, laid_long, piece_room, laid_piece, laid_length, laid_end}
 use Rattle.signed_graph.proofs.Soundness.{to_sound}
 use Rattle.commands.specs.Entries.{entry_bytes}
 use Rattle.canonical.specs.Canonical.{ordered_edges}
@@ -53,7 +52,7 @@ loop-p-preserved c =
     let row = bytes_row g (to_sound g c.requires.0) l.p c.loop-p-test.true x.result x.ensures in (
       l.invariant.0,
       laid_piece (entry_bytes (edges_to (get_or g.positive l.p 0) x.result l.p)) _ _ r.result
-          (laid_as row l.invariant.1) r.ensures.0 r.ensures.1,
+          (laid_as row l.invariant.1) r.ensures.length r.ensures.bytes,
     )
 
 pub shape_of-out : goal.shape_of-out
@@ -63,4 +62,4 @@ pub returns : goal.returns
 returns c =
     let l = c.loop-p in
     let e = laid_as (bytes_end c.args.g l.p c.loop-p-test.false) l.invariant.1 in
-    (laid_length e, laid_end e)
+    record { length = laid_length e; bytes = laid_end e }

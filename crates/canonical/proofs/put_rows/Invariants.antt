@@ -1,15 +1,9 @@
 -- `canonical::put_rows` meets its contract. The edges from p on are to come. Assumes nothing.
-use Prim.Native.Nat.{◌+◌, ◌-◌, ◌≤◌}
-use native.Mathlib.Omega.{arith}
-use mathlib.Core.Path.{ap}
-use borrow.Author.Rules.{rules}
-use lib.ListN.{get_or, length-append}
-use Rattle.vertex_set.proofs.Buffers.{Laid, laid_start, laid_as, laid_room, laid_long, piece_room, laid_piece, laid_length, laid_end}
-use Rattle.signed_graph.proofs.Soundness.{to_sound}
+use Prim.Native.Nat.{◌-◌, ◌≤◌}
+use Rattle.vertex_set.proofs.Buffers.{Laid}
 use Rattle.commands.specs.Entries.{entry_bytes}
 use Rattle.canonical.specs.Canonical.{ordered_edges}
-use Rattle.canonical.specs.EdgeRows.{edges_to}
-use Rattle.canonical.proofs.Rows.{edges_from, from_start, bytes_row, bytes_end}
+use Rattle.canonical.proofs.Rows.{edges_from}
 use Rattle.canonical.proofs.put_rows.Given as goal
 
 abbrev pub invariant-loop-p : goal.invariant-loop-p

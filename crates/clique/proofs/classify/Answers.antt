@@ -1,11 +1,7 @@
 -- `clique::classify` meets its contract. The check decides, then the verdict is that of a sound graph. Assumes nothing.
-use mathlib.Core.Path.{sym, ap, ap₂, ◌∙◌}
-use borrow.Author.Rules.{rules}
-use Rattle.signed_graph.specs.declared.Check.{Check}
-use Rattle.signed_graph.specs.Calls.{check_number}
+use mathlib.Core.Path.{sym, ◌∙◌}
 use Rattle.signed_graph.proofs.Calls.{accepted_sound}
 use Rattle.signed_graph.proofs.Soundness.{to_sound}
-use Rattle.clique.specs.Verdicts.{verdict, classified_by, classified_values_by}
 use Rattle.clique.proofs.VerdictWords.{no_verdict, as_first}
 use Rattle.clique.proofs.classify.Goals as goal
 

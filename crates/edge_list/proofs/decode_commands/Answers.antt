@@ -1,14 +1,13 @@
 -- `edge_list::decode_commands` meets its contract. The graph has the edges and the masks of the commands before the place reached. Assumes nothing.
-use Prim.Native.Nat.{◌+◌, ◌-◌}
+use Prim.Native.Nat.{◌+◌}
 use native.Mathlib.Omega.{arith}
 use mathlib.Core.Path.{refl, sym, ◌∙◌}
-use mathlib.Core.Logic.{⊎_elim}
-use lib.ListN.{length, length-drop}
-use borrow.Author.Rules.{rules}
+use lib.ListN.{length-drop}
 use Rattle.vertex_set.proofs.Buffers.{part_from_law}
 use Rattle.commands.specs.Entries.{link, mask}
-use Rattle.edge_list.proofs.Decoding.{Reached, reached_begin, reached_end, reached_close, reached_refusal, reached_low, reached_room, reached_positive, reached_negative, reached_mask}
+use Rattle.edge_list.proofs.Decoding.{reached_begin, reached_end, reached_close, reached_refusal, reached_low, reached_room, reached_positive, reached_negative, reached_mask}
 use Rattle.edge_list.proofs.decode_commands.Goals as goal
+use Rattle.edge_list.proofs.decode_commands.Goals.{in-Positive, in-Negative}
 
 pub loop-at-init : goal.loop-at-init
 loop-at-init c =
@@ -30,18 +29,21 @@ put_edge-requires-in-Negative c =
 
 pub overflow_add-at : goal.overflow_add-at
 overflow_add-at c =
-    omega (arith, (goal.at.overflow_add-at c).Joined-sign, reached_room c.loop-at-test.true c.loop-at.invariant c.step_by-step.ensures (link _ _ _) c.in-Edge.is)
+    omega (arith, reached_room c.loop-at-test.true c.loop-at.invariant c.step_by-step.ensures (link _ _ _) c.in-Edge.is)
 
 pub loop-at-smaller-in-Edge : goal.loop-at-smaller-in-Edge
 loop-at-smaller-in-Edge c = omega (arith, c.loop-at-test.true)
 
 pub loop-at-preserved-in-Edge : goal.loop-at-preserved-in-Edge
 loop-at-preserved-in-Edge c =
-    let e = c.in-Edge.is in
-    ⊎_elim
-    (λ w. reached_positive c.loop-at-test.true c.loop-at.invariant c.step_by-step.ensures e w.1.given.1 w.3.ensures w.4)
-    (λ w. reached_negative c.loop-at-test.true c.loop-at.invariant c.step_by-step.ensures e w.1.given.1 w.3.ensures w.4)
-    c.match-sign.branch
+    elim c.match-sign.branch [
+      | in-Positive w ↦
+          reached_positive c.loop-at-test.true c.loop-at.invariant c.step_by-step.ensures c.in-Edge.is
+          w.in-Positive.is w.put_edge.ensures w.graph-is
+      | in-Negative w ↦
+          reached_negative c.loop-at-test.true c.loop-at.invariant c.step_by-step.ensures c.in-Edge.is
+          w.in-Negative.is w.put_edge-in-Negative.ensures w.graph-is
+    ]
 
 pub overflow_add-at-in-Mask : goal.overflow_add-at-in-Mask
 overflow_add-at-in-Mask c =

@@ -1,13 +1,7 @@
 -- `edge_list::decode_commands` meets its contract. The graph has the edges and the masks of the commands before the place reached. Assumes nothing.
-use Prim.Native.Nat.{◌+◌, ◌-◌}
-use native.Mathlib.Omega.{arith}
-use mathlib.Core.Path.{refl, sym, ◌∙◌}
-use mathlib.Core.Logic.{⊎_elim}
-use lib.ListN.{length, length-drop}
-use borrow.Author.Rules.{rules}
-use Rattle.vertex_set.proofs.Buffers.{part_from_law}
-use Rattle.commands.specs.Entries.{link, mask}
-use Rattle.edge_list.proofs.Decoding.{Reached, reached_begin, reached_end, reached_close, reached_refusal, reached_low, reached_room, reached_positive, reached_negative, reached_mask}
+use Prim.Native.Nat.{◌-◌}
+use lib.ListN.{length}
+use Rattle.edge_list.proofs.Decoding.{Reached}
 use Rattle.edge_list.proofs.decode_commands.Given as goal
 
 abbrev pub invariant-loop-at : goal.invariant-loop-at

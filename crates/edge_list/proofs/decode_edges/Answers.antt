@@ -1,7 +1,6 @@
 -- `edge_list::decode_edges` meets its contract. Each test is the definition's check of the opening. Assumes nothing.
 use native.Mathlib.Omega.{arith}
 use mathlib.Core.Path.{◌∙◌}
-use borrow.Author.Rules.{rules}
 use Rattle.edge_list.proofs.Openings.{fault_1_empty, fault_1_first, fault_4_opening, fault_2, opened}
 use Rattle.edge_list.proofs.decode_edges.Goals as goal
 

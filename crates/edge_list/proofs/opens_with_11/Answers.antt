@@ -1,6 +1,5 @@
 -- `edge_list::opens_with_11` meets its contract. An empty list has no first byte. Assumes nothing.
 use mathlib.Core.Path.{sym}
-use borrow.Author.Rules.{rules}
 use borrow.Author.Tests.{ne_eqb}
 use Rattle.edge_list.proofs.Answers.{empty_first}
 use Rattle.edge_list.proofs.opens_with_11.Goals as goal

@@ -1,7 +1,6 @@
 -- `edge_list::step_by` meets its contract. Each byte is the command of its test. Assumes nothing.
 use native.Mathlib.Omega.{arith}
 use mathlib.Core.Path.{◌∙◌}
-use borrow.Author.Rules.{rules}
 use Rattle.commands.proofs.Steps.{at_21, at_22, at_23, fault_3, fault_9, closed}
 use Rattle.edge_list.proofs.step_by.Goals as goal
 

@@ -1,5 +1,4 @@
 -- `largest::largest_sound` meets its contract. The search goes from the root, below which all groups are. Assumes nothing.
-use borrow.Author.Rules.{rules}
 use Rattle.largest.proofs.Bests.{largest_none, largest_some}
 use Rattle.largest.proofs.largest_sound.Goals as goal
 

@@ -1,7 +1,6 @@
 -- `largest::look_for_larger` meets its contract. Assumes nothing.
 use mathlib.Core.Path.{refl}
 use mathlib.Core.Bool.{false}
-use borrow.Author.Rules.{rules}
 use Rattle.vertex_set.proofs.Booleans.{clash}
 use Rattle.largest.proofs.Bests.{finds_none, finds_barren}
 use Rattle.largest.proofs.look_for_larger.Goals as goal

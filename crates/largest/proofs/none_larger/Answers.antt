@@ -1,7 +1,6 @@
 -- `largest::none_larger` meets its contract. Assumes nothing.
 use mathlib.Core.Path.{refl}
 use mathlib.Core.Bool.{false}
-use borrow.Author.Rules.{rules}
 use Rattle.vertex_set.proofs.Booleans.{clash}
 use Rattle.largest.proofs.SizesBelow.{none_larger_have}
 use Rattle.largest.proofs.none_larger.Goals as goal

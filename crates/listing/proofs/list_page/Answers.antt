@@ -3,7 +3,6 @@ use Prim.Native.Nat.{ℕ}
 use mathlib.Core.Path.{◌≡◌, sym, ap, ◌∙◌}
 use mathlib.Core.List.{List}
 use lib.ListN.{length}
-use borrow.Author.Rules.{rules}
 use Rattle.signed_graph.specs.declared.SignedGraph.{SignedGraph}
 use Rattle.signed_graph.specs.declared.Check.{Check}
 use Rattle.signed_graph.specs.Calls.{check_number, check_of}
@@ -42,13 +41,12 @@ returns-in-Refused c =
     let a = c.args in
     let told = sym c.in-Refused.is in
     let e = told ∙ c.check_call.ensures.answer in
-    let is = answered a.g a.k a.from a.out.now e in (
-      is,
-      (
-        wrote a.g a.k a.from a.out.now e,
-        (ap check_number told ∙ c.check_call.ensures.number, valued a.g a.k a.from (length a.out.now) is),
-      ),
-    )
+    let is = answered a.g a.k a.from a.out.now e in record {
+      answer = is;
+      bytes = wrote a.g a.k a.from a.out.now e;
+      number = ap check_number told ∙ c.check_call.ensures.number;
+      values = valued a.g a.k a.from (length a.out.now) is;
+    }
 
 pub returns-in-Accepted : goal.returns-in-Accepted
 unfolding answer
@@ -57,13 +55,9 @@ returns-in-Accepted c =
     let a = c.args in
     let told = sym c.in-Accepted.is in
     let e = told ∙ c.check_call.ensures.answer in
-    let is = h.answered ∙ answered a.g a.k a.from a.out.now e in (
-      is,
-      (
-        h.wrote ∙ wrote a.g a.k a.from a.out.now e,
-        (
-          ap check_number (ap (λ (p : Page). p.outcome) h.answered ∙ told) ∙ c.check_call.ensures.number,
-          valued a.g a.k a.from (length a.out.now) is,
-        ),
-      ),
-    )
+    let is = h.answered ∙ answered a.g a.k a.from a.out.now e in record {
+      answer = is;
+      bytes = h.wrote ∙ wrote a.g a.k a.from a.out.now e;
+      number = ap check_number (ap (λ (p : Page). p.outcome) h.answered ∙ told) ∙ c.check_call.ensures.number;
+      values = valued a.g a.k a.from (length a.out.now) is;
+    }

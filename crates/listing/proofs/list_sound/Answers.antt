@@ -1,5 +1,4 @@
 -- `listing::list_sound` meets its contract. The search goes from the root, below which all groups are. Assumes nothing.
-use borrow.Author.Rules.{rules}
 use Rattle.listing.proofs.Search.{lists_all}
 use Rattle.listing.proofs.list_sound.Goals as goal
 

@@ -1,10 +1,14 @@
 -- `look_ahead::fewest_conflicts` meets its contract. Where none were found so far, an excluded vertex fits beside all. Assumes nothing.
+use Prim.Native.Nat.{◌<◌}
 use native.Mathlib.Omega.{arith}
 use borrow.Author.Rules.{rules}
-use Rattle.vertex_set.specs.Sets.{size}
 use Rattle.vertex_set.proofs.LowestVertex.{lowest_lt, size_rest}
-use Rattle.look_ahead.proofs.BarrenBranches.{Narrowing, narrowing_begin, narrowing_step}
+use Rattle.look_ahead.proofs.BarrenBranches.{narrowing_begin, narrowing_step}
 use Rattle.look_ahead.proofs.fewest_conflicts.Goals as goal
+use Rattle.look_ahead.proofs.fewest_conflicts.Goals.{After-lowest-x}
+
+small : (c : After-lowest-x) → c.lowest-x.result < 64
+small c = omega (arith, c.lowest-x.ensures, lowest_lt _ (search rules) c.loop-left.invariant.traversal.fits)
 
 pub loop-left-init : goal.loop-left-init
 loop-left-init c = narrowing_begin _ _ _ _ _ _ c.ranges.excluded.fits
@@ -13,7 +17,7 @@ pub offset_bounds-positive-x : goal.offset_bounds-positive-x
 offset_bounds-positive-x c = record { fits = omega (arith, small (goal.at.offset_bounds-positive-x c).After-lowest-x) }
 
 pub bounds-positive-x : goal.bounds-positive-x
-bounds-positive-x c = omega (arith, c.lowest-x.ensures, lowest_lt _ (search rules) c.loop-left.invariant.traversal.fits)
+bounds-positive-x c = small (goal.at.bounds-positive-x c).After-lowest-x
 
 pub offset_bounds-negative-x : goal.offset_bounds-negative-x
 offset_bounds-negative-x c = record { fits = omega (arith, small (goal.at.offset_bounds-negative-x c).After-lowest-x) }

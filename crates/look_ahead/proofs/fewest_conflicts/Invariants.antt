@@ -1,9 +1,6 @@
 -- `look_ahead::fewest_conflicts` meets its contract. Where none were found so far, an excluded vertex fits beside all. Assumes nothing.
-use native.Mathlib.Omega.{arith}
-use borrow.Author.Rules.{rules}
 use Rattle.vertex_set.specs.Sets.{size}
-use Rattle.vertex_set.proofs.LowestVertex.{lowest_lt, size_rest}
-use Rattle.look_ahead.proofs.BarrenBranches.{Narrowing, narrowing_begin, narrowing_step}
+use Rattle.look_ahead.proofs.BarrenBranches.{Narrowing}
 use Rattle.look_ahead.proofs.fewest_conflicts.Given as goal
 
 abbrev pub invariant-loop-left : goal.invariant-loop-left

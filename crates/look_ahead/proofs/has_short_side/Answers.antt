@@ -1,6 +1,5 @@
 -- `look_ahead::has_short_side` meets its contract. Assumes nothing.
 use mathlib.Core.Path.{refl}
-use borrow.Author.Rules.{rules}
 use Rattle.look_ahead.proofs.Lacking.{lacks_left, lacks_right}
 use Rattle.look_ahead.proofs.has_short_side.Goals as goal
 

@@ -1,5 +1,4 @@
 -- `look_ahead::look_ahead` meets its contract. Assumes nothing.
-use borrow.Author.Rules.{rules}
 use Rattle.look_ahead.proofs.BarrenBranches.{no_claim}
 use Rattle.look_ahead.proofs.look_ahead.Goals as goal
 

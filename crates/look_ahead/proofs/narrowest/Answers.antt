@@ -1,7 +1,6 @@
 -- `look_ahead::narrowest` meets its contract: a pass over the excluded vertices of each side. Assumes nothing.
 use mathlib.Core.Path.{refl}
 use mathlib.Core.Bool.{false}
-use borrow.Author.Rules.{rules}
 use Rattle.look_ahead.proofs.BarrenBranches.{narrowest_of}
 use Rattle.look_ahead.proofs.narrowest.Goals as goal
 

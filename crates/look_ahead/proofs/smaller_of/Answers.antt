@@ -1,6 +1,5 @@
 -- `look_ahead::smaller_of` meets its contract. Assumes nothing.
 use mathlib.Core.Logic.{inl, inr}
-use borrow.Author.Rules.{rules}
 use borrow.Author.Tests.{eqb-true}
 use Rattle.look_ahead.proofs.smaller_of.Goals as goal
 

@@ -1,7 +1,6 @@
 -- `look_ahead::stays_short` meets its contract. Assumes nothing.
 use mathlib.Core.Path.{refl}
 use mathlib.Core.Bool.{false}
-use borrow.Author.Rules.{rules}
 use Rattle.vertex_set.proofs.Booleans.{clash}
 use Rattle.look_ahead.proofs.Lacking.{lacks_have}
 use Rattle.look_ahead.proofs.stays_short.Goals as goal

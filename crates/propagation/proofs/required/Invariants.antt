@@ -1,4 +1,5 @@
 -- `propagation::required` meets its contract. Those found so far are each the only one that some excluded vertex does not fit beside.
+-- Assumes nothing.
 use Rattle.vertex_set.specs.Sets.{size}
 use Rattle.propagation.proofs.SoleConflicts.{Requiring}
 use Rattle.propagation.proofs.required.Given as goal

@@ -1,4 +1,5 @@
 -- `reduction::looks_of` meets its contract. What is counted are the vertices, and the edges of those that are not left.
+-- Assumes nothing.
 use Rattle.vertex_set.specs.Sets.{size}
 use Rattle.reduction.proofs.LookCounts.{Counting}
 use Rattle.reduction.proofs.looks_of.Given as goal

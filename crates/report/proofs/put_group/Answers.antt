@@ -4,7 +4,6 @@ use Prim.Native.Nat.{ℕ, ◌+◌, ◌-◌, ◌≤◌}
 use native.Mathlib.Omega.{arith}
 use mathlib.Core.Path.{◌≡◌, sym, ap, subst}
 use mathlib.Core.List.{List, [], ◌∷◌, ◌++◌}
-use borrow.Author.Rules.{rules}
 use borrow.Rule.Slice.PartMut.{put_mid}
 use lib.ListN.{length, take, drop, set, length-append}
 use Rattle.vertex_set.proofs.Buffers.{
@@ -27,8 +26,8 @@ module _ (l r : ℕ) (out : List ℕ) (room : length (group_line l r) ≤ length
   abbrev behind : List ℕ
   behind = right_part r ++ 0x0a ∷ []
 
-  left-room : length (left_part l) ≤ length out
-  left-room = omega (arith, ap length (group_parts l r), length-append (left_part l) (0x7c ∷ behind))
+  left_room : length (left_part l) ≤ length out
+  left_room = omega (arith, ap length (group_parts l r), length-append (left_part l) (0x7c ∷ behind))
 
   -- the buffer behind the left vertices, then behind the bar
   module _ (o : List ℕ) (k : ℕ) (e : k ≡ length (left_part l)) (is : o ≡ left_part l ++ drop (length (left_part l)) out) where
@@ -48,68 +47,74 @@ module _ (l r : ℕ) (out : List ℕ) (room : length (group_line l r) ≤ length
 
 pub put_members-bar-requires : goal.put_members-bar-requires
 put_members-bar-requires c =
-    left-room c.args.left c.args.right c.args.out.now c.requires
+    left_room c.args.left c.args.right c.args.out.now c.requires
 
 pub bounds-out-bar : goal.bounds-out-bar
 bounds-out-bar c =
     let m = c.put_members-bar in
-    let e = lefts c.args.left c.args.right c.args.out.now c.requires _ m.result m.ensures.0 m.ensures.1 in
+    let e = lefts c.args.left c.args.right c.args.out.now c.requires _ m.result m.ensures.length m.ensures.bytes in
     omega (arith, laid_room e, laid_long e)
 
 pub overflow_add-behind : goal.overflow_add-behind
 overflow_add-behind c =
     let m = c.put_members-bar in
-    let e = lefts c.args.left c.args.right c.args.out.now c.requires _ m.result m.ensures.0 m.ensures.1 in
+    let e = lefts c.args.left c.args.right c.args.out.now c.requires _ m.result m.ensures.length m.ensures.bytes in
     omega (arith, laid_room e)
 
 pub slice_bounds-put_members-count : goal.slice_bounds-put_members-count
 slice_bounds-put_members-count c =
     let m = c.put_members-bar in
-    let e = barred c.args.left c.args.right c.args.out.now c.requires _ m.result m.ensures.0 m.ensures.1 in
+    let e = barred c.args.left c.args.right c.args.out.now c.requires _ m.result m.ensures.length m.ensures.bytes in
+    omega (arith, laid_room e, laid_long e)
+
+pub slice_bounds-put_members-start : goal.slice_bounds-put_members-start
+slice_bounds-put_members-start c =
+    let m = c.put_members-bar in
+    let e = barred c.args.left c.args.right c.args.out.now c.requires _ m.result m.ensures.length m.ensures.bytes in
     omega (arith, laid_room e, laid_long e)
 
 pub put_members-others-requires : goal.put_members-others-requires
 put_members-others-requires c =
     let m = c.put_members-bar in
     piece_room (right_part c.args.right) (0x0a ∷ [])
-    (barred c.args.left c.args.right c.args.out.now c.requires _ m.result m.ensures.0 m.ensures.1)
+    (barred c.args.left c.args.right c.args.out.now c.requires _ m.result m.ensures.length m.ensures.bytes)
 
 pub overflow_add-end : goal.overflow_add-end
 overflow_add-end c =
     let m = c.put_members-bar in
     let n = c.put_members-others in
-    let e = rights c.args.left c.args.right c.args.out.now c.requires _ m.result m.ensures.0 m.ensures.1
-    _ n.result n.ensures.0 n.ensures.1 in
+    let e = rights c.args.left c.args.right c.args.out.now c.requires _ m.result m.ensures.length m.ensures.bytes
+    _ n.result n.ensures.length n.ensures.bytes in
     omega (arith, laid_room e)
 
 pub bounds-out-end : goal.bounds-out-end
 bounds-out-end c =
     let m = c.put_members-bar in
     let n = c.put_members-others in
-    let e = rights c.args.left c.args.right c.args.out.now c.requires _ m.result m.ensures.0 m.ensures.1
-    _ n.result n.ensures.0 n.ensures.1 in
+    let e = rights c.args.left c.args.right c.args.out.now c.requires _ m.result m.ensures.length m.ensures.bytes
+    _ n.result n.ensures.length n.ensures.bytes in
     omega (arith, laid_room e, laid_long e)
 
 pub overflow_add-result : goal.overflow_add-result
 overflow_add-result c =
     let m = c.put_members-bar in
     let n = c.put_members-others in
-    let e = rights c.args.left c.args.right c.args.out.now c.requires _ m.result m.ensures.0 m.ensures.1
-    _ n.result n.ensures.0 n.ensures.1 in
+    let e = rights c.args.left c.args.right c.args.out.now c.requires _ m.result m.ensures.length m.ensures.bytes
+    _ n.result n.ensures.length n.ensures.bytes in
     omega (arith, laid_room e)
 
 pub shape_of-out : goal.shape_of-out
 shape_of-out c =
     let m = c.put_members-bar in
     let n = c.put_members-others in
-    let e = rights c.args.left c.args.right c.args.out.now c.requires _ m.result m.ensures.0 m.ensures.1
-    _ n.result n.ensures.0 n.ensures.1 in
+    let e = rights c.args.left c.args.right c.args.out.now c.requires _ m.result m.ensures.length m.ensures.bytes
+    _ n.result n.ensures.length n.ensures.bytes in
     laid_long (laid_store 0x0a [] e)
 
 pub returns : goal.returns
 returns c =
     let m = c.put_members-bar in
     let n = c.put_members-others in
-    let e = rights c.args.left c.args.right c.args.out.now c.requires _ m.result m.ensures.0 m.ensures.1
-    _ n.result n.ensures.0 n.ensures.1 in
-    (laid_length (laid_store 0x0a [] e), laid_end (laid_store 0x0a [] e))
+    let e = rights c.args.left c.args.right c.args.out.now c.requires _ m.result m.ensures.length m.ensures.bytes
+    _ n.result n.ensures.length n.ensures.bytes in
+    record { length = laid_length (laid_store 0x0a [] e); bytes = laid_end (laid_store 0x0a [] e) }

@@ -2,7 +2,6 @@
 use Prim.Native.Nat.{ℕ}
 use mathlib.Core.Path.{◌≡◌, sym, ap}
 use mathlib.Core.List.{List}
-use borrow.Author.Rules.{rules}
 use Rattle.report.specs.declared.Line.{Line}
 use Rattle.report.specs.Lines.{line_text}
 use Rattle.report.proofs.Written.{Wrote, wrote_as}

@@ -1,5 +1,4 @@
 -- `report::write_count` meets its contract. The line is its name and the number. Assumes nothing.
-use borrow.Author.Rules.{rules}
 use Rattle.report.specs.Lines.{groups_word, count_line}
 use Rattle.report.proofs.Written.{wrote_number}
 use Rattle.report.proofs.write_count.Goals as goal

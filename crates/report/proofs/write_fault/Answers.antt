@@ -3,7 +3,6 @@ use Prim.Native.Nat.{ℕ}
 use native.Mathlib.Omega.{arith}
 use mathlib.Core.Path.{◌≡◌, refl, sym, subst}
 use mathlib.Core.List.{List, [], ◌++◌, append-nil}
-use borrow.Author.Rules.{rules}
 use lib.ListN.{length, drop, replicate, length-append}
 use Rattle.vertex_set.proofs.Buffers.{
   Laid,
@@ -46,7 +45,7 @@ pub put_number-rest-requires : goal.put_number-rest-requires
 put_number-rest-requires c =
     let a = c.args in
     let r = c.put_number-middle in
-    array_room 64 refl (place_part a.place) [] (refused a.number a.place _ r.result r.ensures.0 r.ensures.1)
+    array_room 64 refl (place_part a.place) [] (refused a.number a.place _ r.result r.ensures.length r.ensures.bytes)
 
 pub overflow_add-end : goal.overflow_add-end
 overflow_add-end c =
@@ -59,7 +58,7 @@ slice_bounds-line-end-2 c =
     let r = c.put_number-middle in
     let t = c.put_number-rest in
     let e = array_piece 64 refl (place_part a.place) []
-    (refused a.number a.place _ r.result r.ensures.0 r.ensures.1) _ t.result t.ensures.0 t.ensures.1 in
+    (refused a.number a.place _ r.result r.ensures.length r.ensures.bytes) _ t.result t.ensures.length t.ensures.bytes in
     front_room (fault_line a.number a.place) _ _ _ (laid_length e) (laid_end e)
 
 pub slice_bounds-write_line-end : goal.slice_bounds-write_line-end
@@ -68,7 +67,7 @@ slice_bounds-write_line-end c =
     let r = c.put_number-middle in
     let t = c.put_number-rest in
     let e = array_piece 64 refl (place_part a.place) []
-    (refused a.number a.place _ r.result r.ensures.0 r.ensures.1) _ t.result t.ensures.0 t.ensures.1 in
+    (refused a.number a.place _ r.result r.ensures.length r.ensures.bytes) _ t.result t.ensures.length t.ensures.bytes in
     front_length (fault_line a.number a.place) _ _ _ (laid_length e) (laid_end e)
 
 pub returns : goal.returns
@@ -77,5 +76,5 @@ returns c =
     let r = c.put_number-middle in
     let t = c.put_number-rest in
     let e = array_piece 64 refl (place_part a.place) []
-    (refused a.number a.place _ r.result r.ensures.0 r.ensures.1) _ t.result t.ensures.0 t.ensures.1 in
+    (refused a.number a.place _ r.result r.ensures.length r.ensures.bytes) _ t.result t.ensures.length t.ensures.bytes in
     wrote_as (front_is (fault_line a.number a.place) _ _ _ (laid_length e) (laid_end e)) _ _ _ c.write_line.ensures

@@ -1,6 +1,5 @@
 -- `report::write_group` meets its contract. The line is at the front of the local array. Assumes nothing.
 use native.Mathlib.Omega.{arith}
-use borrow.Author.Rules.{rules}
 use Rattle.vertex_set.proofs.Buffers.{front_is, front_room, front_length}
 use Rattle.report.specs.Lines.{group_line}
 use Rattle.report.proofs.Words.{length_group}
@@ -14,16 +13,16 @@ pub slice_bounds-line-end : goal.slice_bounds-line-end
 slice_bounds-line-end c =
     let a = c.args in
     let p = c.put_group-end in
-    front_room (group_line a.left a.right) _ _ p.result p.ensures.0 p.ensures.1
+    front_room (group_line a.left a.right) _ _ p.result p.ensures.length p.ensures.bytes
 
 pub slice_bounds-write_line-end : goal.slice_bounds-write_line-end
 slice_bounds-write_line-end c =
     let a = c.args in
     let p = c.put_group-end in
-    front_length (group_line a.left a.right) _ _ p.result p.ensures.0 p.ensures.1
+    front_length (group_line a.left a.right) _ _ p.result p.ensures.length p.ensures.bytes
 
 pub returns : goal.returns
 returns c =
     let a = c.args in
     let p = c.put_group-end in
-    wrote_as (front_is (group_line a.left a.right) _ _ p.result p.ensures.0 p.ensures.1) _ _ _ c.write_line.ensures
+    wrote_as (front_is (group_line a.left a.right) _ _ p.result p.ensures.length p.ensures.bytes) _ _ _ c.write_line.ensures

@@ -3,7 +3,6 @@ use Prim.Native.Nat.{ℕ}
 use native.Mathlib.Omega.{arith}
 use mathlib.Core.Path.{◌≡◌, refl, sym, subst}
 use mathlib.Core.List.{List, [], ◌∷◌, ◌++◌, append-nil}
-use borrow.Author.Rules.{rules}
 use lib.ListN.{drop, replicate}
 use Rattle.vertex_set.proofs.Buffers.{
   Laid,
@@ -50,7 +49,7 @@ slice_bounds-line-end-2 c =
     let a = c.args in
     let g = c.put_group-group in
     let e = array_piece longest_line refl (group_line a.left a.right) [] (named a.left a.right _ c.put_text.ensures)
-    _ g.result g.ensures.0 g.ensures.1 in
+    _ g.result g.ensures.length g.ensures.bytes in
     front_room (largest_line a.left a.right) _ _ _ (laid_length e) (laid_end e)
 
 pub slice_bounds-write_line-end : goal.slice_bounds-write_line-end
@@ -58,7 +57,7 @@ slice_bounds-write_line-end c =
     let a = c.args in
     let g = c.put_group-group in
     let e = array_piece longest_line refl (group_line a.left a.right) [] (named a.left a.right _ c.put_text.ensures)
-    _ g.result g.ensures.0 g.ensures.1 in
+    _ g.result g.ensures.length g.ensures.bytes in
     front_length (largest_line a.left a.right) _ _ _ (laid_length e) (laid_end e)
 
 pub returns : goal.returns
@@ -66,5 +65,5 @@ returns c =
     let a = c.args in
     let g = c.put_group-group in
     let e = array_piece longest_line refl (group_line a.left a.right) [] (named a.left a.right _ c.put_text.ensures)
-    _ g.result g.ensures.0 g.ensures.1 in
+    _ g.result g.ensures.length g.ensures.bytes in
     wrote_as (front_is (largest_line a.left a.right) _ _ _ (laid_length e) (laid_end e)) _ _ _ c.write_line.ensures

@@ -1,5 +1,4 @@
 -- `report::write_none` meets its contract. The text is the line. Assumes nothing.
-use borrow.Author.Rules.{rules}
 use Rattle.report.specs.Lines.{preceded, spaced, line_of, none_line}
 use Rattle.report.proofs.write_none.Goals as goal
 

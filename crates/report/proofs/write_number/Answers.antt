@@ -1,7 +1,6 @@
 -- `report::write_number` meets its contract. The line is at the front of the local array. Assumes nothing.
 use native.Mathlib.Omega.{arith}
 use mathlib.Core.List.{[], ◌∷◌, ◌++◌}
-use borrow.Author.Rules.{rules}
 use lib.ListN.{length-append}
 use Rattle.vertex_set.proofs.Buffers.{front_is, front_room, front_length}
 use Rattle.decimals.specs.Decimals.{decimal, between}
@@ -24,16 +23,16 @@ pub slice_bounds-line-end : goal.slice_bounds-line-end
 slice_bounds-line-end c =
     let a = c.args in
     let p = c.put_number-end in
-    front_room (between a.name.now (0x0a ∷ []) a.n) _ _ p.result p.ensures.0 p.ensures.1
+    front_room (between a.name.now (0x0a ∷ []) a.n) _ _ p.result p.ensures.length p.ensures.bytes
 
 pub slice_bounds-write_line-end : goal.slice_bounds-write_line-end
 slice_bounds-write_line-end c =
     let a = c.args in
     let p = c.put_number-end in
-    front_length (between a.name.now (0x0a ∷ []) a.n) _ _ p.result p.ensures.0 p.ensures.1
+    front_length (between a.name.now (0x0a ∷ []) a.n) _ _ p.result p.ensures.length p.ensures.bytes
 
 pub returns : goal.returns
 returns c =
     let a = c.args in
     let p = c.put_number-end in
-    wrote_as (front_is (between a.name.now (0x0a ∷ []) a.n) _ _ p.result p.ensures.0 p.ensures.1) _ _ _ c.write_line.ensures
+    wrote_as (front_is (between a.name.now (0x0a ∷ []) a.n) _ _ p.result p.ensures.length p.ensures.bytes) _ _ _ c.write_line.ensures
