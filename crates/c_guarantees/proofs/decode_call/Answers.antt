@@ -6,7 +6,9 @@ use Rattle.c_guarantees.proofs.decode_call.Goals as goal
 pub returns : goal.returns
 returns c =
     let a = c.args in
-    let is = c.mastpickle_decode.ensures in (
-      is.0,
-      λ z. record { before = a.graph.now; answer = a.answer.now; returned = sym is.0 ∙ z; left = is.1.0 },
-    )
+    let is = c.mastpickle_decode.ensures in
+    record {
+      value = is.number;
+      left_by_decode =
+          λ z. record { before = a.graph.now; answer = a.answer.now; returned = sym is.number ∙ z; left = is.words };
+    }

@@ -5,4 +5,4 @@ use Rattle.c_guarantees.proofs.page_call.Goals as goal
 pub returns : goal.returns
 returns c =
     let is = c.mastpickle_list_page.ensures in
-    λ from. record { returned = is.0; wrote = is.1.0; answered = is.1.1 }
+    λ from. record { returned = is.number; wrote = is.bytes; answered = is.words }

@@ -7,15 +7,17 @@ use Rattle.c_guarantees.proofs.reduce_call.Goals as goal
 pub returns : goal.returns
 returns c =
     let a = c.args in
-    let is = c.mastpickle_reduce.ensures in (
-      is.0,
-      λ bytes d z.
-          inr record {
-            graph = a.graph.now;
-            by_decode = d;
-            before = a.reduced.now;
-            answer = a.answer.now;
-            returned = sym is.0 ∙ z;
-            left = is.1.0;
-          },
-    )
+    let is = c.mastpickle_reduce.ensures in
+    record {
+      value = is.number;
+      by_index =
+          λ bytes d z.
+              inr record {
+                graph = a.graph.now;
+                by_decode = d;
+                before = a.reduced.now;
+                answer = a.answer.now;
+                returned = sym is.number ∙ z;
+                left = is.words;
+              };
+    }

@@ -5,7 +5,9 @@ use Rattle.commands.specs.declared.Outcome.{Outcome}
 use Rattle.guarantees.proofs.decode_call.Goals as goal
 
 pub returns : goal.returns
-returns c = (
-      c.decode.ensures.answer,
-      λ e. sym c.decode.ensures.answer ∙ ap (λ (o : Outcome). record { outcome = o; graph = c.decode.result.graph }) e,
-    )
+returns c =
+    record {
+      value = c.decode.ensures.answer;
+      bytes_value =
+          λ e. sym c.decode.ensures.answer ∙ ap (λ (o : Outcome). record { outcome = o; graph = c.decode.result.graph }) e;
+    }

@@ -5,4 +5,4 @@ use Rattle.guarantees.proofs.page_call.Goals as goal
 pub returns : goal.returns
 returns c =
     let page = c.list_page in
-    record { answered = page.ensures.0; wrote = page.ensures.1.0 }
+    record { answered = page.ensures.answer; wrote = page.ensures.bytes }

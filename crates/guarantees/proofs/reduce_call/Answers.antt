@@ -6,4 +6,5 @@ use Rattle.reduction.specs.declared.Reduced.{Reduced}
 use Rattle.guarantees.proofs.reduce_call.Goals as goal
 
 pub returns : goal.returns
-returns c = (c.reduce.ensures.answer, inr (ap (λ (r : Reduced). r.graph) c.reduce.ensures.answer))
+returns c =
+    record { value = c.reduce.ensures.answer; one_of = inr (ap (λ (r : Reduced). r.graph) c.reduce.ensures.answer) }
