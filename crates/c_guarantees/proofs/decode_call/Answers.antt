@@ -9,5 +9,6 @@ returns c =
     let is = c.mastpickle_decode.ensures in
     record {
       value = is.number;
-      left_by_decode = λ z. record { before = a.graph.now; answer = a.answer.now; returned = sym is.number ∙ z; left = is.words };
+      left_by_decode =
+          λ z. record { before = a.graph.now; answer = a.answer.now; returned = sym is.number ∙ z; left = is.words };
     }

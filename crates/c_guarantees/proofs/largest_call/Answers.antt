@@ -3,4 +3,4 @@ use borrow.Author.Rules.{rules}
 use Rattle.c_guarantees.proofs.largest_call.Goals as goal
 
 pub returns : goal.returns
-returns c = let is = c.mastpickle_largest.ensures in record { value = is.number; answer_after = is.words }
+returns c = record { value = c.mastpickle_largest.ensures.number; answer_after = c.mastpickle_largest.ensures.words }

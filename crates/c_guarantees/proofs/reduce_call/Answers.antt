@@ -10,7 +10,8 @@ returns c =
     let is = c.mastpickle_reduce.ensures in
     record {
       value = is.number;
-      by_index = λ bytes d z.
+      by_index =
+          λ bytes d z.
           inr record {
             graph = a.graph.now;
             by_decode = d;
