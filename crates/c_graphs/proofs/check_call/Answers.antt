@@ -1,6 +1,5 @@
 -- `c_graphs::check_call` meets its contract. Assumes nothing.
 use mathlib.Core.Path.{◌∙◌}
-use borrow.Author.Rules.{rules}
 use Rattle.c_words.specs.Refusals.{unless_refused}
 use Rattle.c_words.proofs.Refusals.{refuses, passes, graph_long}
 use Rattle.c_graphs.proofs.check_call.Goals as goal

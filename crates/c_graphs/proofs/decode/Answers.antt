@@ -1,6 +1,5 @@
 -- `c_graphs::decode` meets its contract. Assumes nothing.
 use mathlib.Core.Path.{refl, ap, ◌∙◌}
-use borrow.Author.Rules.{rules}
 use Rattle.commands.specs.declared.Decoded.{Decoded}
 use Rattle.c_words.specs.Refusals.{unless_refused}
 use Rattle.c_words.proofs.Graphs.{written_as}

@@ -1,6 +1,5 @@
 -- `c_graphs::new` meets its contract. Assumes nothing.
 use mathlib.Core.Path.{refl}
-use borrow.Author.Rules.{rules}
 use Rattle.c_words.specs.Refusals.{unless_refused}
 use Rattle.c_words.proofs.Graphs.{written_as}
 use Rattle.c_words.proofs.Refusals.{refuses, passes, graph_long}

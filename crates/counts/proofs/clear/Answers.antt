@@ -2,9 +2,9 @@
 use Prim.Native.Nat.{ℕ, suc, ◌+◌, ◌-◌, ◌≤◌, ◌<◌}
 use native.Mathlib.Omega.{arith}
 use mathlib.Core.Path.{◌≡◌, ap}
-use mathlib.Core.List.{List, [], ◌∷◌}
-use lib.ListN.{replicate, length-replicate}
-use Rattle.vertex_set.proofs.Buffers.{Laid, laid_start, laid_as, laid_long, laid_store, laid_end}
+use mathlib.Core.List.{[], ◌∷◌}
+use lib.ListN.{length-replicate}
+use Rattle.vertex_set.proofs.Buffers.{laid_start, laid_as, laid_long, laid_store, laid_end}
 use Rattle.counts.proofs.clear.Goals as goal
 use Rattle.counts.proofs.clear.Invariants.{zeros}
 

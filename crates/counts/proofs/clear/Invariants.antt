@@ -1,10 +1,8 @@
 -- `counts::clear` meets its contract. The zeros from place i on are to come. Assumes nothing.
-use Prim.Native.Nat.{ℕ, suc, ◌+◌, ◌-◌, ◌≤◌, ◌<◌}
-use native.Mathlib.Omega.{arith}
-use mathlib.Core.Path.{◌≡◌, ap}
-use mathlib.Core.List.{List, [], ◌∷◌}
-use lib.ListN.{replicate, length-replicate}
-use Rattle.vertex_set.proofs.Buffers.{Laid, laid_start, laid_as, laid_long, laid_store, laid_end}
+use Prim.Native.Nat.{ℕ, ◌-◌, ◌≤◌}
+use mathlib.Core.List.{List}
+use lib.ListN.{replicate}
+use Rattle.vertex_set.proofs.Buffers.{Laid}
 use Rattle.counts.proofs.clear.Given as goal
 
 abbrev pub zeros : ℕ → List ℕ

@@ -1,6 +1,5 @@
 -- `counts::count_containing` meets its contract. Each test picks the definitions' case. Assumes nothing.
 use mathlib.Core.Path.{sym, ◌∙◌}
-use borrow.Author.Rules.{rules}
 use borrow.Author.Tests.{lt-ltb, le-ltb}
 use Rattle.counts.proofs.Calls.{refused, too_short, too_many, counted}
 use Rattle.counts.proofs.count_containing.Goals as goal

@@ -3,7 +3,6 @@ use Prim.Native.Nat.{ℕ, ◌+◌, ◌≤◌}
 use native.Mathlib.Omega.{arith}
 use mathlib.Core.Path.{◌≡◌, refl, sym, ap, ◌∙◌, subst}
 use mathlib.Core.List.{List, map, foldl}
-use borrow.Author.Rules.{rules}
 use lib.ListN.{length, take, replicate, length-append, length-take}
 use Rattle.vertex_set.specs.Buffers.{overwritten}
 use Rattle.signed_graph.specs.declared.SignedGraph.{SignedGraph}
@@ -20,7 +19,7 @@ use Rattle.pages.specs.Pages.{due}
 use Rattle.pages.proofs.Walks.{walked_start}
 use Rattle.group_pages.specs.Calls.{due_groups, page_of}
 use Rattle.group_pages.proofs.Counts.{listing_few}
-use Rattle.group_pages.proofs.Walks.{WalkedGroups, page_due, page_fewer, groups_next, groups_all}
+use Rattle.group_pages.proofs.Walks.{page_due, page_fewer, groups_next, groups_all}
 use Rattle.counts.specs.Counts.{containing}
 use Rattle.counts.specs.Tallies.{walk_records, walk_room, raised_by, RoomFor}
 use Rattle.counts.proofs.Tallies.{fold_length, fold_fits, fold_zeros, zeros_fit}

@@ -3,7 +3,6 @@ use Prim.Native.Nat.{ℕ, ◌+◌, ◌-◌, ◌/◌, ◌≤◌, ◌<◌}
 use native.Mathlib.Omega.{arith}
 use mathlib.Core.Path.{◌≡◌, refl, sym, ap, ◌∙◌, subst}
 use mathlib.Core.List.{List, foldl}
-use borrow.Author.Rules.{rules}
 use lib.ListN.{length}
 use Rattle.vertex_set.specs.Ranges.{gather}
 use Rattle.vertex_set.proofs.Ranges.{gather_more, gather_end}

@@ -1,16 +1,10 @@
 -- `counts::count_records` meets its contract. The records from i on are to be counted. Assumes nothing.
-use Prim.Native.Nat.{ℕ, ◌+◌, ◌-◌, ◌/◌, ◌≤◌, ◌<◌}
-use native.Mathlib.Omega.{arith}
-use mathlib.Core.Path.{◌≡◌, refl, sym, ap, ◌∙◌, subst}
+use Prim.Native.Nat.{ℕ, ◌-◌}
+use mathlib.Core.Path.{◌≡◌}
 use mathlib.Core.List.{List, foldl}
-use borrow.Author.Rules.{rules}
 use lib.ListN.{length}
 use Rattle.vertex_set.specs.Ranges.{gather}
-use Rattle.vertex_set.proofs.Ranges.{gather_more, gather_end}
-use Rattle.group_pages.specs.declared.RecordSides.{RecordSides}
-use Rattle.group_pages.specs.Records.{record_width, sides_at}
-use Rattle.counts.specs.Tallies.{raised, RoomFor, joined, vertices_at, record_sets}
-use Rattle.counts.proofs.Tallies.{raised_length, raised_fits}
+use Rattle.counts.specs.Tallies.{raised, RoomFor, vertices_at, record_sets}
 use Rattle.counts.proofs.count_records.Given as goal
 
 -- the counts after i of n records, of which the others are to be counted
