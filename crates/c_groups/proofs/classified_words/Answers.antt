@@ -1,6 +1,5 @@
 -- `c_groups::classified_words` meets its contract. Assumes nothing.
 use mathlib.Core.Path.{sym, ap, ◌∙◌}
-use borrow.Author.Rules.{rules}
 use Rattle.c_groups.specs.Answers.{classified_words}
 use Rattle.c_groups.proofs.classified_words.Goals as goal
 

@@ -1,6 +1,5 @@
 -- `c_groups::count` meets its contract. Assumes nothing.
 use mathlib.Core.Path.{refl, ◌∙◌}
-use borrow.Author.Rules.{rules}
 use Rattle.c_words.specs.Refusals.{unless_refused}
 use Rattle.c_words.proofs.Refusals.{refuses, passes, graph_long}
 use Rattle.c_groups.proofs.count.Goals as goal

@@ -1,6 +1,5 @@
 -- `c_groups::largest` meets its contract. Assumes nothing.
 use mathlib.Core.Path.{refl, ◌∙◌}
-use borrow.Author.Rules.{rules}
 use Rattle.c_words.specs.Refusals.{unless_refused}
 use Rattle.c_words.proofs.Refusals.{refuses, passes, both_long}
 use Rattle.c_groups.proofs.largest.Goals as goal

@@ -2,7 +2,6 @@
 use mathlib.Core.Path.{◌≡◌, refl}
 use mathlib.Core.Logic.{◌≢◌}
 use Prim.Native.Nat.{ℕ, zero, suc}
-use borrow.Author.Rules.{rules}
 use Rattle.pages.specs.declared.Bookmark.TheVariants.{After}
 use Rattle.c_pages.specs.Answers.{mark_at}
 use Rattle.c_pages.proofs.mark_at.Goals as goal

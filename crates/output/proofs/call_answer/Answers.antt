@@ -1,6 +1,5 @@
 -- `output::call_answer` meets its contract. Each arm is the definition's case. Assumes nothing.
 use mathlib.Core.Path.{sym, ap, ◌∙◌}
-use borrow.Author.Rules.{rules}
 use Rattle.output.specs.declared.Answer.TheVariants.{Refused}
 use Rattle.output.specs.Output.{call_answer}
 use Rattle.output.proofs.call_answer.Goals as goal

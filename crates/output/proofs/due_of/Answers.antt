@@ -1,6 +1,5 @@
 -- `output::due_of` meets its contract. A refused list is answered by its fault, an accepted one by the check. Assumes nothing.
 use mathlib.Core.Path.{◌≡◌, ap, ◌∙◌}
-use borrow.Author.Rules.{rules}
 use Rattle.signed_graph.specs.declared.Check.{Check}
 use Rattle.signed_graph.specs.Thresholds.{Threshold}
 use Rattle.signed_graph.specs.Calls.{check_of}

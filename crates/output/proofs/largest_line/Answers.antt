@@ -1,6 +1,5 @@
 -- `output::largest_line` meets its contract. Each arm is the definition's case. Assumes nothing.
 use mathlib.Core.Path.{◌≡◌, sym, ap, ◌∙◌}
-use borrow.Author.Rules.{rules}
 use Rattle.signed_graph.specs.declared.Check.{Check}
 use Rattle.largest.specs.declared.LargestGroup.{LargestGroup}
 use Rattle.output.specs.Output.{largest_line_by, line_of_largest}

@@ -1,6 +1,5 @@
 -- `output::list_answer` meets its contract. Each arm is the definition's case. Assumes nothing.
 use mathlib.Core.Path.{sym, ap, ◌∙◌}
-use borrow.Author.Rules.{rules}
 use Rattle.output.specs.declared.Answer.TheVariants.{Refused}
 use Rattle.output.specs.Output.{list_answer}
 use Rattle.output.proofs.list_answer.Goals as goal

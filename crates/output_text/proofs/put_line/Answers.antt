@@ -1,6 +1,5 @@
 -- `output_text::put_line` meets its contract. There is room for every line. Assumes nothing.
 use mathlib.Core.Path.{◌∙◌}
-use borrow.Author.Rules.{rules}
 use Rattle.report.proofs.Rooms.{whole_length, whole_bytes}
 use Rattle.output_text.proofs.put_line.Goals as goal
 

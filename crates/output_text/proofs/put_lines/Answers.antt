@@ -3,7 +3,6 @@ use Prim.Native.Nat.{ℕ, ◌-◌, ◌*◌, ◌≤◌}
 use native.Mathlib.Omega.{arith}
 use mathlib.Core.Path.{◌≡◌, sym, ap, ◌∙◌}
 use mathlib.Core.List.{List, [], ◌++◌, append-nil}
-use borrow.Author.Rules.{rules}
 use lib.ListN.{length, take, drop, length-append, length-take, length-drop}
 use Rattle.vertex_set.specs.Buffers.{overwritten}
 use Rattle.vertex_set.proofs.Buffers.{Laid, laid_first, laid_as, laid_room, laid_long, laid_piece, laid_length, laid_end}

@@ -1,13 +1,13 @@
 -- `output_text::put_records` meets its contract. The lines of the records from i on are to come, and each has room. Assumes nothing.
-use Prim.Native.Nat.{ℕ, ◌-◌, ◌*◌, ◌/◌, ◌≤◌}
+use Prim.Native.Nat.{ℕ, ◌-◌, ◌/◌}
 use native.Mathlib.Omega.{arith}
 use mathlib.Core.Path.{◌≡◌, ap}
 use borrow.Author.Rules.{rules}
 use lib.ListN.{length, drop, length-take, length-drop}
 use Rattle.vertex_set.specs.Ranges.{gather}
 use Rattle.vertex_set.proofs.Ranges.{gather_end}
-use Rattle.vertex_set.proofs.Buffers.{Laid, laid_start, laid_as, laid_room, laid_long, laid_piece, laid_length, laid_end}
-use Rattle.report.specs.Lines.{line_text, longest_line}
+use Rattle.vertex_set.proofs.Buffers.{laid_start, laid_as, laid_room, laid_long, laid_piece, laid_length, laid_end}
+use Rattle.report.specs.Lines.{line_text}
 use Rattle.report.proofs.Words.{line_short}
 use Rattle.output_text.specs.Records.{sides_line, records_text}
 use Rattle.group_pages.specs.Records.{record_width}
