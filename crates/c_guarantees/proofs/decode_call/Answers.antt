@@ -1,6 +1,5 @@
 -- `c_guarantees::decode_call` meets its contract. Assumes nothing.
 use mathlib.Core.Path.{sym, ◌∙◌}
-use borrow.Author.Rules.{rules}
 use Rattle.c_guarantees.proofs.decode_call.Goals as goal
 
 pub returns : goal.returns

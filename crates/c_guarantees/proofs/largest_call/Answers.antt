@@ -1,5 +1,4 @@
 -- `c_guarantees::largest_call` meets its contract. Assumes nothing.
-use borrow.Author.Rules.{rules}
 use Rattle.c_guarantees.proofs.largest_call.Goals as goal
 
 pub returns : goal.returns

@@ -1,7 +1,6 @@
 -- `c_guarantees::reduce_call` meets its contract. Assumes nothing.
 use mathlib.Core.Path.{sym, ◌∙◌}
 use mathlib.Core.Logic.{inr}
-use borrow.Author.Rules.{rules}
 use Rattle.c_guarantees.proofs.reduce_call.Goals as goal
 
 pub returns : goal.returns

@@ -1,6 +1,5 @@
 -- `guarantees::decode_call` meets its contract. Assumes nothing.
 use mathlib.Core.Path.{sym, ap, ◌∙◌}
-use borrow.Author.Rules.{rules}
 use Rattle.commands.specs.declared.Outcome.{Outcome}
 use Rattle.guarantees.proofs.decode_call.Goals as goal
 

@@ -1,5 +1,4 @@
 -- `guarantees::largest_call` meets its contract. Assumes nothing.
-use borrow.Author.Rules.{rules}
 use Rattle.guarantees.proofs.largest_call.Goals as goal
 
 pub returns : goal.returns

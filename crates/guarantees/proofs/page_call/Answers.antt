@@ -1,5 +1,4 @@
 -- `guarantees::page_call` meets its contract. Assumes nothing.
-use borrow.Author.Rules.{rules}
 use Rattle.guarantees.proofs.page_call.Goals as goal
 
 pub returns : goal.returns

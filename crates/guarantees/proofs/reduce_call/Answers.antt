@@ -1,7 +1,6 @@
 -- `guarantees::reduce_call` meets its contract. Assumes nothing.
 use mathlib.Core.Path.{ap}
 use mathlib.Core.Logic.{inr}
-use borrow.Author.Rules.{rules}
 use Rattle.reduction.specs.declared.Reduced.{Reduced}
 use Rattle.guarantees.proofs.reduce_call.Goals as goal
 
