@@ -1,5 +1,5 @@
 -- For proofs: bounds on the size of the balanced sets that keep their sides within given vertices. Assumes nothing.
-use Rattle.std.specs.Prelude.{ℕ, ◌+◌, ◌-◌, ◌^◌, ◌≤◌, ◌<◌, ◌≡◌, ◌≢◌, Bool, true, false, ◌&&◌, List, get_or}
+use Rattle.std.specs.Prelude.{ℕ, ◌+◌, ◌-◌, ◌^◌, ◌≤◌, ◌≡◌, ◌≢◌, Bool, true, false, ◌&&◌, List, get_or}
 use Rattle.std.specs.Int.Bits.{bit_or}
 use Rattle.vertex_set.specs.Sets.{mem, Subset, size}
 use Rattle.signed_graph.specs.declared.SignedGraph.{SignedGraph}

@@ -34,7 +34,7 @@ abbrev Tells : List ℕ → ℕ → List ℕ → Type 0
 Tells listing i words =
     record {
       value : words ≡ record_words (length listing) i;
-      result_value : part_at listing words ≡ record_at listing i
+      result_value : part_at listing words ≡ record_at listing i;
     }
 
 module _ (listing : List ℕ) (i : ℕ) where

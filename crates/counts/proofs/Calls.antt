@@ -44,7 +44,7 @@ module _ (g : SignedGraph) (k : Threshold) (sets buffer : List ℕ) where
       record {
         answer : r ≡ counting_of g k sets buffer;
         counts : after ≡ counts_of g k sets buffer;
-        number : counting_number r ≡ counts_number g k sets buffer
+        number : counting_number r ≡ counts_number g k sets buffer;
       }
 
   answers : (r : Counting) → r ≡ counting_of g k sets buffer → Answers r (buffer_by r (map (containing g k) sets) buffer)

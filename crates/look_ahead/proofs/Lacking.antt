@@ -15,7 +15,7 @@ use Rattle.signed_graph.proofs.Soundness.{Sound, to_sound}
 use Rattle.clique.proofs.Groups.{floor_least}
 use Rattle.nodes.specs.declared.Side.{Side}
 use Rattle.nodes.specs.declared.Node.{Node}
-use Rattle.nodes.specs.Nodes.{chosen, Barren, StaysShort}
+use Rattle.nodes.specs.Nodes.{Barren, StaysShort}
 use Rattle.look_ahead.specs.LookAhead.{FindsBarren}
 use Rattle.signed_graph.specs.Tables.{ForSound}
 use Rattle.bounds.specs.Bounds.{Tabled, AtMostBy}

@@ -12,12 +12,12 @@ returns c =
       value = is.number;
       by_index =
           λ bytes d z.
-              inr record {
-                graph = a.graph.now;
-                by_decode = d;
-                before = a.reduced.now;
-                answer = a.answer.now;
-                returned = sym is.number ∙ z;
-                left = is.words;
-              };
+          inr record {
+            graph = a.graph.now;
+            by_decode = d;
+            before = a.reduced.now;
+            answer = a.answer.now;
+            returned = sym is.number ∙ z;
+            left = is.words;
+          };
     }

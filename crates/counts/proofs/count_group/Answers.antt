@@ -55,12 +55,11 @@ bounds-counts-i-in-loop-i c =
     omega (arith, c.requires.0, long c.args.v c.args.sets.now c.args.counts.now c.loop-i.counts c.loop-i.i c.loop-i.invariant.1)
 
 pub loop-i-preserved : goal.loop-i-preserved
-loop-i-preserved c =
-    (
-      omega arith,
-      next c.args.v c.args.sets.now c.args.counts.now c.loop-i.counts c.loop-i.i c.loop-i.invariant.1
-          c.one_within-one.result (omega arith) (omega (arith, c.requires.0)) c.one_within-one.ensures,
-    )
+loop-i-preserved c = (
+  omega arith,
+  next c.args.v c.args.sets.now c.args.counts.now c.loop-i.counts c.loop-i.i c.loop-i.invariant.1
+      c.one_within-one.result (omega arith) (omega (arith, c.requires.0)) c.one_within-one.ensures,
+)
 
 pub shape_of-counts : goal.shape_of-counts
 shape_of-counts c =

@@ -1,5 +1,4 @@
 -- `group_pages::put_group` meets its contract. Assumes nothing.
-use borrow.Author.Rules.{rules}
 use native.Mathlib.Omega.{arith}
 use Rattle.clique.specs.Listing.{item_set}
 use Rattle.pages.proofs.Filling.{adds_more, adds_next}

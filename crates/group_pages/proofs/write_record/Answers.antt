@@ -1,5 +1,4 @@
 -- `group_pages::write_record` meets its contract. Assumes nothing.
-use borrow.Author.Rules.{rules}
 use Rattle.group_pages.proofs.Records.{record_laid}
 use Rattle.group_pages.proofs.write_record.Goals as goal
 

@@ -8,6 +8,5 @@ pub returns : goal.returns
 returns c =
     record {
       value = c.decode.ensures.answer;
-      bytes_value =
-          λ e. sym c.decode.ensures.answer ∙ ap (λ (o : Outcome). record { outcome = o; graph = c.decode.result.graph }) e;
+      bytes_value = λ e. sym c.decode.ensures.answer ∙ ap (λ (o : Outcome). record { outcome = o; graph = c.decode.result.graph }) e;
     }

@@ -26,10 +26,10 @@ due_is d e k a q h = cc
 pub returns-in_default : goal.returns-in_default
 returns-in_default c =
     let d = c.decode-decoded in
-    due_is d.result _ _ _ d.ensures.0 (c.list_answer-answer.ensures ∙ by-list d.result.outcome _ _ c.in_default.is)
+    due_is d.result _ _ _ d.ensures.answer (c.list_answer-answer.ensures ∙ by-list d.result.outcome _ _ c.in_default.is)
 
 pub returns : goal.returns
 returns c =
     let d = c.decode-decoded in
-    due_is d.result _ _ _ d.ensures.0
+    due_is d.result _ _ _ d.ensures.answer
     (c.call_answer-answer.ensures ∙ ap call_answer c.check_call.ensures.answer ∙ by-check d.result.outcome _ c.in-Accepted.is)

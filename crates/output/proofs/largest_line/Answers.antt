@@ -10,7 +10,7 @@ arm : (x y : LargestGroup) (o : Check) → x ≡ y → x.outcome ≡ o → large
 arm x y o e q = ap (λ (z : Check). largest_line_by z x.left x.right) (sym q) ∙ ap line_of_largest e
 
 pub returns-in-Accepted : goal.returns-in-Accepted
-returns-in-Accepted c = let l = c.largest-largest in arm l.result _ _ l.ensures.0 c.in-Accepted.is
+returns-in-Accepted c = let l = c.largest-largest in arm l.result _ _ l.ensures.answer c.in-Accepted.is
 
 pub returns-in-Refused : goal.returns-in-Refused
-returns-in-Refused c = let l = c.largest-largest in arm l.result _ _ l.ensures.0 c.in-Refused.is
+returns-in-Refused c = let l = c.largest-largest in arm l.result _ _ l.ensures.answer c.in-Refused.is

@@ -6,7 +6,8 @@ use Rattle.output_text.proofs.put_line.Goals as goal
 
 pub returns : goal.returns
 returns c =
-    let w = c.write in (
-      w.ensures.0 ∙ whole_length c.args.line c.args.text.now c.requires,
-      w.ensures.1 ∙ whole_bytes c.args.line c.args.text.now c.requires,
-    )
+    let w = c.write in
+    record {
+      length = w.ensures.length ∙ whole_length c.args.line c.args.text.now c.requires;
+      bytes = w.ensures.bytes ∙ whole_bytes c.args.line c.args.text.now c.requires;
+    }

@@ -32,46 +32,49 @@ module _ (x y : Line) (before out : List ℕ) (k : ℕ) (room : longest_line * 2
 pub slice_bounds-put_line-count : goal.slice_bounds-put_line-count
 slice_bounds-put_line-count c =
     let p = c.put_line-start in
-    let l = c.closing-in-Lines-1.given.0 in
-    fits l.0 l.1.0 c.args.text.now _ p.result c.requires p.ensures.0 p.ensures.1
+    let l = c.in-Lines in
+    fits l.largest l.count c.args.text.now _ p.result c.requires p.ensures.length p.ensures.bytes
 
 pub slice_bounds-put_line-start : goal.slice_bounds-put_line-start
 slice_bounds-put_line-start c =
     let p = c.put_line-start in
-    let l = c.closing-in-Lines-1.given.0 in
-    fits l.0 l.1.0 c.args.text.now _ p.result c.requires p.ensures.0 p.ensures.1
+    let l = c.in-Lines in
+    fits l.largest l.count c.args.text.now _ p.result c.requires p.ensures.length p.ensures.bytes
 
 pub put_line-rest-requires : goal.put_line-rest-requires
 put_line-rest-requires c =
     let p = c.put_line-start in
-    let l = c.closing-in-Lines-1.given.0 in
-    room-behind l.0 l.1.0 c.args.text.now _ p.result c.requires p.ensures.0 p.ensures.1
+    let l = c.in-Lines in
+    room-behind l.largest l.count c.args.text.now _ p.result c.requires p.ensures.length p.ensures.bytes
 
 pub overflow_add-result : goal.overflow_add-result
 overflow_add-result c =
-    let l = c.closing-in-Lines-1.given.0 in
+    let l = c.in-Lines in
     omega (
       arith,
       c.put_line-start.ensures.length,
       c.put_line-rest.ensures.length,
-      line_short l.0,
-      line_short l.1.0,
+      line_short l.largest,
+      line_short l.count,
     )
 
 pub returns-in-Refused : goal.returns-in-Refused
 returns-in-Refused c =
     let p = c.put_line in
     let e = sym (ap closing_text c.in-Refused.is) in
-    (p.ensures.0 ∙ ap length e, p.ensures.1 ∙ ap (λ (t : List ℕ). overwritten t c.args.text.now) e)
+    record {
+      length = p.ensures.length ∙ ap length e;
+      bytes = p.ensures.bytes ∙ ap (λ (t : List ℕ). overwritten t c.args.text.now) e;
+    }
 
 pub returns-in-Lines : goal.returns-in-Lines
 returns-in-Lines c =
     let q = c.put_line-rest in
     let p = c.put_line-start in
-    let o = c.closing-in-Lines-1.given in
     let t = c.args.text.now in
-    let x = o.0.0 in
-    let y = o.0.1.0 in
-    let l = laid_piece (line_text y) [] _ q.result (first x y t _ p.result c.requires p.ensures.0 p.ensures.1) q.ensures.0 q.ensures.1 in
-    let e = sym (ap closing_text o.1) in
-    (laid_length l ∙ ap length e, laid_end l ∙ ap (λ (s : List ℕ). overwritten s t) e)
+    let x = c.in-Lines.largest in
+    let y = c.in-Lines.count in
+    let l = laid_piece (line_text y) [] _ q.result (first x y t _ p.result c.requires p.ensures.length p.ensures.bytes)
+    q.ensures.length q.ensures.bytes in
+    let e = sym (ap closing_text c.in-Lines.is) in
+    record { length = laid_length l ∙ ap length e; bytes = laid_end l ∙ ap (λ (s : List ℕ). overwritten s t) e }

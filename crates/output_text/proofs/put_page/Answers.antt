@@ -22,19 +22,19 @@ pub overflow_mul-end : goal.overflow_mul-end
 overflow_mul-end c =
     let a = c.args in
     let p = c.list_page-page in
-    omega (arith, page_fits a.g a.k a.from page_room p.result p.ensures.0)
+    omega (arith, page_fits a.g a.k a.from page_room p.result p.ensures.answer)
 
 pub slice_bounds-space-end : goal.slice_bounds-space-end
 slice_bounds-space-end c =
     let a = c.args in
     let p = c.list_page-page in
-    omega (arith, p.auto.1.1.1.0, page_fits a.g a.k a.from page_room p.result p.ensures.0)
+    omega (arith, p.auto.out, page_fits a.g a.k a.from page_room p.result p.ensures.answer)
 
 pub slice_bounds-put_records-end : goal.slice_bounds-put_records-end
 slice_bounds-put_records-end c =
     let a = c.args in
     let p = c.list_page-page in
-    sym (length-take-le _ _ (omega (arith, p.auto.1.1.1.0, page_fits a.g a.k a.from page_room p.result p.ensures.0)))
+    sym (length-take-le _ _ (omega (arith, p.auto.out, page_fits a.g a.k a.from page_room p.result p.ensures.answer)))
 
 pub put_records-length-requires : goal.put_records-length-requires
 put_records-length-requires c =
@@ -42,8 +42,8 @@ put_records-length-requires c =
     let p = c.list_page-page in
     omega (
       arith,
-      length-take (record_width * p.result.count) p.new.1.1.1.0,
-      page_fits a.g a.k a.from page_room p.result p.ensures.0,
+      length-take (record_width * p.result.count) p.new.out,
+      page_fits a.g a.k a.from page_room p.result p.ensures.answer,
     )
 
 pub returns : goal.returns
@@ -51,8 +51,10 @@ returns c =
     let a = c.args in
     let p = c.list_page-page in
     let r = c.put_records-length in
-    let e = ap₂ (λ (x : Page) (s : List ℕ). records_text (take (record_width * x.count) s)) p.ensures.0 p.ensures.1.0
-    ∙ page_text_law a.g a.k a.from space refl in (
-      p.ensures.0,
-      (r.ensures.0 ∙ ap length e, r.ensures.1 ∙ ap (λ (t : List ℕ). overwritten t a.text.now) e),
-    )
+    let e = ap₂ (λ (x : Page) (s : List ℕ). records_text (take (record_width * x.count) s)) p.ensures.answer p.ensures.bytes
+    ∙ page_text_law a.g a.k a.from space refl in
+    record {
+      page = p.ensures.answer;
+      length = r.ensures.length ∙ ap length e;
+      bytes = r.ensures.bytes ∙ ap (λ (t : List ℕ). overwritten t a.text.now) e;
+    }

@@ -69,4 +69,4 @@ returns c =
     let a = c.args in
     let l = c.loop-i in
     let e = laid_as (gather_end (line_at a.records.now) (length a.records.now / record_width) l.i c.loop-i-test.false) l.invariant.1 in
-    (laid_length e, laid_end e)
+    record { length = laid_length e; bytes = laid_end e }
