@@ -22,7 +22,6 @@ const O_RDWR: c_int = 2;
 const O_NOCTTY: c_int = 0o400;
 const O_NONBLOCK: c_int = 0o4000;
 const O_CLOEXEC: c_int = 0o2000000;
-pub const SIGPIPE: c_int = 13;
 pub const SIGCONT: c_int = 18;
 pub const SIGSTOP: c_int = 19;
 

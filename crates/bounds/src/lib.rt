@@ -98,7 +98,7 @@ pub fn is_bounded<'a>(
     negative: &'a [u64; 64],
 ) -> bool
     ensures at_most_by { result ≡ true → AtMostBy table.now positive.now negative.now left right room }
-    ensures right_nonzero { result ≡ false → bit_or left right ≢ 0 }
+    ensures nonempty { result ≡ false → bit_or left right ≢ 0 }
 {
     let open = left | right;
     if open == 0 {

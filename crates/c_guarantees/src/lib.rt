@@ -10,16 +10,16 @@ ghost use Rattle.c_guarantees.specs.CDemand.{LeftByDecode, ArrayOf, PageRan, pag
 
 // The array that it leaves has S, where it returns 0.
 pub fn decode_call(bytes: &[u8], graph: &mut [u64], answer: &mut [u64]) -> u64
-    ensures value { result ≡ decode_returns bytes.now graph.old answer.old }
-    ensures left_by_decode { result ≡ 0 → LeftByDecode bytes.now graph.new }
+    ensures number { result ≡ decode_returns bytes.now graph.old answer.old }
+    ensures words { result ≡ 0 → LeftByDecode bytes.now graph.new }
 {
     mastpickle::mastpickle_decode(bytes, graph, answer)
 }
 
 // From an array with S it leaves one with S reduced for k, where it returns 0.
 pub fn reduce_call(graph: &[u64], k: u64, reduced: &mut [u64], answer: &mut [u64]) -> u64
-    ensures value { result ≡ reduce_returns graph.now k reduced.old answer.old }
-    ensures by_index { (bytes : List ℕ) → LeftByDecode bytes graph.now → result ≡ 0 → ArrayOf bytes k reduced.new }
+    ensures number { result ≡ reduce_returns graph.now k reduced.old answer.old }
+    ensures words { (bytes : List ℕ) → LeftByDecode bytes graph.now → result ≡ 0 → ArrayOf bytes k reduced.new }
 {
     mastpickle::mastpickle_reduce(graph, k, reduced, answer)
 }
@@ -40,8 +40,8 @@ pub fn page_call(
 
 // The number and the words that the theorem's last clause speaks of.
 pub fn largest_call(graph: &[u64], k: u64, answer: &mut [u64]) -> u64
-    ensures value { result ≡ largest_returns graph.now k answer.old }
-    ensures answer_after { answer.new ≡ largest_answer graph.now k answer.old }
+    ensures number { result ≡ largest_returns graph.now k answer.old }
+    ensures words { answer.new ≡ largest_answer graph.now k answer.old }
 {
     mastpickle::mastpickle_largest(graph, k, answer)
 }

@@ -33,8 +33,8 @@ part_front listing (a ∷ b ∷ c ∷ l) out e = absurd (omega (arith, e))
 abbrev Tells : List ℕ → ℕ → List ℕ → Type 0
 Tells listing i words =
     record {
-      value : words ≡ record_words (length listing) i;
-      result_value : part_at listing words ≡ record_at listing i;
+      place : words ≡ record_words (length listing) i;
+      part : part_at listing words ≡ record_at listing i;
     }
 
 module _ (listing : List ℕ) (i : ℕ) where
@@ -49,7 +49,7 @@ module _ (listing : List ℕ) (i : ℕ) where
     where
       go : (b : Bool) → leb (record_width * i + record_width) (length listing) ≡ b
           → (record_width * i + record_width ≤ length listing) × Tells listing i (record_width * i ∷ record_width ∷ [])
-      go true e = (leb-true _ _ e, record { value = ap (λ (x : Bool). place_by x i) (sym e); result_value = ap by (sym e) })
+      go true e = (leb-true _ _ e, record { place = ap (λ (x : Bool). place_by x i) (sym e); part = ap by (sym e) })
       go false e = absurd (d (ap (λ (x : Bool). length (by x)) e))
 
   -- one that has none is not
@@ -62,4 +62,4 @@ module _ (listing : List ℕ) (i : ℕ) where
           let there = leb-true (record_width * i + record_width) (length listing) e in
           let long = length-take-le record_width (drop (record_width * i) listing) (omega (arith, there, length-drop (record_width * i) listing)) in
           let is = ap (λ (x : Bool). length (by x)) e in absurd (omega (arith, long, is, z))
-      go false e = record { value = ap (λ (x : Bool). place_by x i) (sym e); result_value = ap by (sym e) }
+      go false e = record { place = ap (λ (x : Bool). place_by x i) (sym e); part = ap by (sym e) }

@@ -44,8 +44,8 @@ fn mark_at(kind: u64, set: u64) -> Bookmark
 
 // Where record i of a listing stands: its first byte and its length.
 fn record_words(listing: &[u8], i: u64) -> [u64; 2]
-    ensures value { result ≡ record_words (length listing.now) i }
-    ensures result_value { part_at listing.now result ≡ record_at listing.now i }
+    ensures place { result ≡ record_words (length listing.now) i }
+    ensures part { part_at listing.now result ≡ record_at listing.now i }
 {
     let part = group_pages::record_at(listing, i);
     if part.len() == 0 {

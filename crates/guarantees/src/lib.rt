@@ -18,16 +18,16 @@ use signed_graph::SignedGraph;
 
 // An accepted list has a graph, the S of the theorem.
 pub fn decode_call(bytes: &[u8]) -> Decoded
-    ensures value { result ≡ decoded bytes.now }
-    ensures bytes_value { result.outcome ≡ outcome.Accepted → decoded bytes.now ≡ accepted result.graph }
+    ensures answer { result ≡ decoded bytes.now }
+    ensures graph { result.outcome ≡ outcome.Accepted → decoded bytes.now ≡ accepted result.graph }
 {
     edge_list::decode(bytes)
 }
 
 // S reduced for k is one of the graphs that a page call may get.
 pub fn reduce_call(g: SignedGraph, k: u64) -> Reduced
-    ensures value { result ≡ reduced g k }
-    ensures one_of { OneOf g k result.graph }
+    ensures answer { result ≡ reduced g k }
+    ensures graph { OneOf g k result.graph }
 {
     reduction::reduce(g, k)
 }

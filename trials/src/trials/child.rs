@@ -1,10 +1,9 @@
 //! The program `groups`, run with streams of any kind and within a time limit.
 
-use crate::system::{send, SIGPIPE};
+use crate::system::send;
 use std::error::Error;
 use std::fmt::{Display, Formatter};
 use std::io::Read;
-use std::os::unix::process::ExitStatusExt;
 use std::path::{Path, PathBuf};
 use std::process::{Child, Command, ExitStatus, Stdio};
 use std::thread::JoinHandle;
@@ -126,16 +125,6 @@ impl Ended {
         }
         let (stdout, stderr) = (shown(stdout.as_bytes()), shown(stderr.as_bytes()));
         Err(format!("{self}\n    must: output {stdout}, error {stderr}").into())
-    }
-
-    /// The signal for a closed pipe ended the program, and nothing is on standard error.
-    pub fn by_closed_pipe(&self) -> Held<()> {
-        let signal = self.status.and_then(|status| status.signal());
-        if signal == Some(SIGPIPE) && self.stderr.is_empty() {
-            Ok(())
-        } else {
-            Err(self.to_string().into())
-        }
     }
 }
 

@@ -9,7 +9,7 @@ use Rattle.bounds.proofs.+at_most_by.Goals.{After-branch_vertex-v}
 -- the vertex to try
 tries : (t : ℕ) (c : After-branch_vertex-v t) → Leads t c.args.left c.args.right c.branch_vertex-v.result
 tries t c =
-    let some = c.is_bounded.ensures.right_nonzero c.if-is_bounded.false in
+    let some = c.is_bounded.ensures.nonempty c.if-is_bounded.false in
     leads c.args.left c.args.right c.ranges.left.fits c.ranges.right.fits some c.branch_vertex-v.result t c.decreases
     (c.branch_vertex-v.ensures some)
 

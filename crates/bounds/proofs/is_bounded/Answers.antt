@@ -21,7 +21,7 @@ pub returns-then-open-eq0 : goal.returns-then-open-eq0
 returns-then-open-eq0 c =
     let a = c.args in record {
       at_most_by = λ _. at_most_none a.table.now a.positive.now a.negative.now a.left a.right a.room c.if-open-eq0.true;
-      right_nonzero = λ e. clash true refl e;
+      nonempty = λ e. clash true refl e;
     }
 
 pub offset_bounds-table-lowest : goal.offset_bounds-table-lowest
@@ -35,11 +35,11 @@ returns-then-table-lowest c =
     let a = c.args in record {
       at_most_by = λ _. at_most_table a.table.now a.positive.now a.negative.now a.left a.right a.room
           (tries (goal.at.returns-then-table-lowest c).After-lowest) c.lowest.ensures c.if-table-lowest.true;
-      right_nonzero = λ e. clash true refl e;
+      nonempty = λ e. clash true refl e;
     }
 
 pub returns : goal.returns
 returns c = record {
   at_most_by = λ e any so _. c.colours_within.ensures e any so;
-  right_nonzero = λ _. c.if-open-eq0.false;
+  nonempty = λ _. c.if-open-eq0.false;
 }

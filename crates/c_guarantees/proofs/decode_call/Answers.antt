@@ -7,7 +7,7 @@ returns c =
     let a = c.args in
     let is = c.mastpickle_decode.ensures in
     record {
-      value = is.number;
-      left_by_decode =
+      number = is.number;
+      words =
           λ z. record { before = a.graph.now; answer = a.answer.now; returned = sym is.number ∙ z; left = is.words };
     }

@@ -2,4 +2,4 @@
 use Rattle.c_guarantees.proofs.largest_call.Goals as goal
 
 pub returns : goal.returns
-returns c = record { value = c.mastpickle_largest.ensures.number; answer_after = c.mastpickle_largest.ensures.words }
+returns c = record { number = c.mastpickle_largest.ensures.number; words = c.mastpickle_largest.ensures.words }

@@ -8,8 +8,8 @@ returns c =
     let a = c.args in
     let is = c.mastpickle_reduce.ensures in
     record {
-      value = is.number;
-      by_index =
+      number = is.number;
+      words =
           λ bytes d z.
           inr record {
             graph = a.graph.now;

@@ -19,18 +19,18 @@ put_words-requires c =
     omega (
       arith,
       answer_long c.if-own-ne0.false _ _ c.answer_refusal-own.ensures,
-      ap length c.record_words-words.ensures.value ∙ record_length (length a.listing.now) a.i,
+      ap length c.record_words-words.ensures.place ∙ record_length (length a.listing.now) a.i,
     )
 
 pub returns : goal.returns
 returns c =
     let a = c.args in
     let is = c.record_words-words.ensures in
-    let two = ap length is.value ∙ record_length (length a.listing.now) a.i in
+    let two = ap length is.place ∙ record_length (length a.listing.now) a.i in
     rw (passes c.answer_refusal-own.ensures c.if-own-ne0.false) (record {
       number = refl;
-      words = c.put_words.ensures ∙ rw is.value;
+      words = c.put_words.ensures ∙ rw is.place;
       part =
           λ _. ap (part_at a.listing.now) c.put_words.ensures
-          ∙ part_front a.listing.now c.record_words-words.result a.answer.now two ∙ is.result_value;
+          ∙ part_front a.listing.now c.record_words-words.result a.answer.now two ∙ is.part;
     })

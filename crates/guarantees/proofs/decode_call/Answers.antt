@@ -6,6 +6,6 @@ use Rattle.guarantees.proofs.decode_call.Goals as goal
 pub returns : goal.returns
 returns c =
     record {
-      value = c.decode.ensures.answer;
-      bytes_value = λ e. sym c.decode.ensures.answer ∙ ap (λ (o : Outcome). record { outcome = o; graph = c.decode.result.graph }) e;
+      answer = c.decode.ensures.answer;
+      graph = λ e. sym c.decode.ensures.answer ∙ ap (λ (o : Outcome). record { outcome = o; graph = c.decode.result.graph }) e;
     }

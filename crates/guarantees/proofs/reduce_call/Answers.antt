@@ -6,4 +6,4 @@ use Rattle.guarantees.proofs.reduce_call.Goals as goal
 
 pub returns : goal.returns
 returns c =
-    record { value = c.reduce.ensures.answer; one_of = inr (ap (λ (r : Reduced). r.graph) c.reduce.ensures.answer) }
+    record { answer = c.reduce.ensures.answer; graph = inr (ap (λ (r : Reduced). r.graph) c.reduce.ensures.answer) }

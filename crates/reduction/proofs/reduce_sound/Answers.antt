@@ -57,14 +57,14 @@ pub loop-seen-smaller : goal.loop-seen-smaller
 loop-seen-smaller c =
     let r = c.round-next in
     let l = c.loop-seen in
-    subst (λ (h : SignedGraph). edge_count h < edge_count l.kept) (sym r.ensures.graph_value)
-    (falls l.kept c.args.k l.look (kept-sound (goal.at.loop-seen-smaller c).At-loop-seen) (omega (arith, r.ensures.fallen_value, c.if-next-eq0.false)))
+    subst (λ (h : SignedGraph). edge_count h < edge_count l.kept) (sym r.ensures.graph)
+    (falls l.kept c.args.k l.look (kept-sound (goal.at.loop-seen-smaller c).At-loop-seen) (omega (arith, r.ensures.fallen, c.if-next-eq0.false)))
 
 pub loop-seen-preserved : goal.loop-seen-preserved
 loop-seen-preserved c g so first all =
     let r = c.round-next in
-    rw (r.ensures.graph_value, r.ensures.fallen_value, c.looks_of-seen.ensures)
-    (reached_next (to_sound g so) (c.loop-seen.invariant g so first all) (λ z. c.if-next-eq0.false (r.ensures.fallen_value ∙ z)))
+    rw (r.ensures.graph, r.ensures.fallen, c.looks_of-seen.ensures)
+    (reached_next (to_sound g so) (c.loop-seen.invariant g so first all) (λ z. c.if-next-eq0.false (r.ensures.fallen ∙ z)))
 
 pub returns-then-k-eq0 : goal.returns-then-k-eq0
 returns-then-k-eq0 c =
@@ -85,4 +85,4 @@ pub returns-then-next-eq0 : goal.returns-then-next-eq0
 returns-then-next-eq0 c =
     let n = c.looks_of-seen in
     ends c.args.g c.args.k c.requires n.result (reached (goal.at.returns-then-next-eq0 c).At-loop-seen) n.ensures
-    (sym c.round-next.ensures.fallen_value ∙ c.if-next-eq0.true)
+    (sym c.round-next.ensures.fallen ∙ c.if-next-eq0.true)

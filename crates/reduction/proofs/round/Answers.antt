@@ -16,4 +16,4 @@ returns c =
     let made =
     round_made c.args.g _ _ _ _ c.requires c.less-few.ensures c.less-fewer.ensures _ _ _ _ _ c.sift_both-able.ensures
     c.able_table-positive.ensures c.able_table-negative.ensures c.drop_edges.ensures c.drop_edges-2.ensures in
-    record { graph_value = made.0; fallen_value = c.differing-fallen.ensures ∙ made.1 }
+    record { graph = made.0; fallen = c.differing-fallen.ensures ∙ made.1 }
