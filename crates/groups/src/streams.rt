@@ -168,11 +168,14 @@ fn is_file(rt: HostRuntime) -> bool {
     }
 }
 
-// Brings the file that standard output is to its disk. A file that cannot be opened again has no more to tell.
+// Brings the file that standard output is to its disk. A file that cannot be opened again, or that is on no disk, has no more to tell.
 fn sync_file(rt: HostRuntime) -> Result<()> {
-    match OpenOptions::new().append(true).open(&rt, "/dev/stdout") {
-        Ok(file) => file.sync_all(),
-        Err(_) => Ok(()),
+    let Ok(file) = OpenOptions::new().append(true).open(&rt, "/dev/stdout") else {
+        return Ok(());
+    };
+    match file.sync_all() {
+        Err(error) if error.kind() == ErrorKind::InvalidInput => Ok(()),
+        result => result,
     }
 }
 
