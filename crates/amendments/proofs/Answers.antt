@@ -8,6 +8,7 @@ use mathlib.Core.Bool.{Bool, true, false}
 use mathlib.Core.List.Memᴰ
 use mathlib.Core.List.{List, [], ◌∷◌, ◌++◌}
 use lib.ListN.{length, get_or, length-append}
+use Rattle.std.specs.Prelude.{Result, Ok, Err}
 use Rattle.vertex_set.specs.Lists.{All, any}
 use Rattle.vertex_set.specs.Sets.{mem}
 use Rattle.vertex_set.proofs.Booleans.{clash}
@@ -24,7 +25,6 @@ use Rattle.commands.specs.declared.Step.{Step}
 use Rattle.commands.specs.declared.Step.TheVariants as Step'
 use Rattle.commands.specs.Entries.{earlier_of}
 use Rattle.commands.specs.Faults.{fault_number}
-use Rattle.commands.specs.Steps.{refused, accepted}
 use Rattle.commands.proofs.Reading as reading
 use Rattle.commands.proofs.Graphs.{edge_as, table_given, masks_given, graph_sound, graph_is}
 use Rattle.commands.proofs.Steps.{one, closed, fault_says, at_end}
@@ -58,18 +58,18 @@ module _ (n : ℕ) where
       ∙ onward_is n cs (bytes_of_amendment c ++ l) at c room
       ∙ ap (λ (x : List ℕ). amended_from n (cs ++ c ∷ []) 0 x (at + suc (operands_of_amendment c))) (past_command c l))
 
-  pub at_close : (cs : List Amendment) (at : ℕ) → amended_from n cs 0 (0xff ∷ []) at ≡ accepted (graph_of_amendments n cs)
+  pub at_close : (cs : List Amendment) (at : ℕ) → amended_from n cs 0 (0xff ∷ []) at ≡ Ok (graph_of_amendments n cs)
   at_close cs at =
       next_command n cs (0xff ∷ []) at (omega arith)
-      ∙ ap (λ (x : Step). follow_amendment x 0xff n cs (onward n cs (0xff ∷ []) at))
+      ∙ ap (λ (x : Result Step Fault). follow_amendment x 0xff n cs (onward n cs (0xff ∷ []) at))
       (sym (closed (earlier_of []) n (0xff ∷ []) at refl (omega arith)))
 
   pub at_fault : (cs : List Amendment) (part : List ℕ) (at : ℕ) (f : Fault) → AmendmentFaultAt n part at f
-      → amended_from n cs 0 part at ≡ refused f
+      → amended_from n cs 0 part at ≡ Err f
   unfolding amended_from
-  at_fault cs [] at f h = ap refused (at_end (earlier_of []) n at f h)
+  at_fault cs [] at f h = ap Err (at_end (earlier_of []) n at f h)
   at_fault cs (c ∷ part) at f h =
-      ap (λ (x : Step). follow_amendment x c n cs (onward n cs (c ∷ part) at))
+      ap (λ (x : Result Step Fault). follow_amendment x c n cs (onward n cs (c ∷ part) at))
       (sym (fault_says (earlier_of []) n (checked_as c ∷ part) at f (omega arith) h))
 
 -- ---- every part closes behind some commands, or has a fault
@@ -89,11 +89,11 @@ module _ (n : ℕ) where
       command : (c : Amendment) → Begins n part c → Turn cs part at
       command c k = reading.gives c k.room k.spelled (all_append (Permitted n) cs (c ∷ []) ok (k.permitted, tt))
 
-      step : (x : Step) → MeansHere n part at x → 0 < length part → Turn cs part at
-      step (Step'.Edge s a b) k some = command _ k.1
-      step (Step'.Mask a) k some = command _ k
-      step Step'.Close k some = reading.closes (one part some k.1 ∙ ap (λ (x : ℕ). x ∷ []) k.0)
-      step (Step'.Refuse f) k some = reading.fails f k
+      step : (x : Result Step Fault) → MeansHere n part at x → 0 < length part → Turn cs part at
+      step (Ok (Step'.Edge s a b)) k some = command _ k.1
+      step (Ok (Step'.Mask a)) k some = command _ k
+      step (Ok Step'.Close) k some = reading.closes (one part some k.1 ∙ ap (λ (x : ℕ). x ∷ []) k.0)
+      step (Err f) k some = reading.fails f k
 
       go : Dec (0 < length part) → Turn cs part at
       go (yes x) = step (amendment_step n part at) (amendment_means n part at x) x
@@ -171,23 +171,23 @@ module _ (n : ℕ) (cs : List Amendment) (small : n ≤ 64) (ok : All (Permitted
   behind part =
       sym (opened (0x11 ∷ n ∷ (amendment_bytes cs ++ part)) (omega arith) small) ∙ past_amendments n cs [] part 2 ok
 
-  pub list_accepted : decoded_amendments (amendment_list n cs) ≡ accepted (graph_of_amendments n cs)
+  pub list_accepted : decoded_amendments (amendment_list n cs) ≡ Ok (graph_of_amendments n cs)
   list_accepted = behind (0xff ∷ []) ∙ at_close n cs (2 + length (amendment_bytes cs))
 
   pub list_refused : (part : List ℕ) (f : Fault) → AmendmentFaultAt n part (2 + length (amendment_bytes cs)) f
-      → decoded_amendments (0x11 ∷ n ∷ (amendment_bytes cs ++ part)) ≡ refused f
+      → decoded_amendments (0x11 ∷ n ∷ (amendment_bytes cs ++ part)) ≡ Err f
   list_refused part f h = behind part ∙ at_fault n cs part (2 + length (amendment_bytes cs)) f h
 
-pub words_accepted : (bytes : List ℕ) (g : SignedGraph) → AmendmentListOf bytes g → decoded_amendments bytes ≡ accepted g
+pub words_accepted : (bytes : List ℕ) (g : SignedGraph) → AmendmentListOf bytes g → decoded_amendments bytes ≡ Ok g
 words_accepted bytes g w =
-    ap decoded_amendments w.spelled ∙ list_accepted g.n w.amendments (amended_small w) w.permitted ∙ ap accepted (amended_graph w)
+    ap decoded_amendments w.spelled ∙ list_accepted g.n w.amendments (amended_small w) w.permitted ∙ ap Ok (amended_graph w)
 
 -- ---- a command given again behind itself changes nothing
 
 pub again_accepted : (n : ℕ) (cs : List Amendment) (c : Amendment) (ds : List Amendment) → n ≤ 64 → All (Permitted n) (cs ++ c ∷ ds)
     → decoded_amendments (amendment_list n (cs ++ c ∷ c ∷ ds)) ≡ decoded_amendments (amendment_list n (cs ++ c ∷ ds))
 again_accepted n cs c ds small ok =
-    list_accepted n (cs ++ c ∷ c ∷ ds) small (twice cs ok) ∙ ap accepted (graph_again n cs c ds) ∙ sym (list_accepted n (cs ++ c ∷ ds) small ok)
+    list_accepted n (cs ++ c ∷ c ∷ ds) small (twice cs ok) ∙ ap Ok (graph_again n cs c ds) ∙ sym (list_accepted n (cs ++ c ∷ ds) small ok)
   where
     twice : (cs : List Amendment) → All (Permitted n) (cs ++ c ∷ ds) → All (Permitted n) (cs ++ c ∷ c ∷ ds)
     twice [] h = (h.0, h)

@@ -1,25 +1,23 @@
 -- What a command of an amendment list does, by its bytes. Assumes nothing.
 use Prim.Native.Nat.{ℕ, suc, ◌≤◌, ◌<◌}
 use native.Mathlib.Omega.{arith}
-use mathlib.Core.Path.{◌≡◌, refl, sym, ap, ap₂, ◌∙◌, fun_ext}
+use mathlib.Core.Path.{◌≡◌, refl, sym, ap, ap₂, ◌∙◌}
 use mathlib.Core.Logic.{◌≢◌}
-use mathlib.Core.Bool.{Bool, false}
 use mathlib.Core.List.{List, [], ◌∷◌, ◌++◌}
 use lib.Dec.{eqb}
 use lib.ListN.{length, get_or, drop}
 use borrow.Author.Tests.{eqb-true, eqb-false, eq-eqb, ne_eqb}
+use Rattle.commands.specs.declared.Fault.{Fault}
+use Rattle.signed_graph.specs.declared.SignedGraph.{SignedGraph}
+use Rattle.std.specs.Prelude.{false, Result, Ok, Err}
 use Rattle.vertex_set.specs.Lists.{any}
 use Rattle.vertex_set.proofs.Booleans.{cases}
 use Rattle.vertex_set.proofs.Alternatives.{applies, passes_by}
-use Rattle.vertex_set.proofs.Membership.{mem_none}
 use Rattle.commands.specs.declared.Sign.{Sign}
 use Rattle.commands.specs.declared.Sign.TheVariants.{Positive, Negative}
-use Rattle.commands.specs.declared.Decoded.{Decoded}
 use Rattle.commands.specs.declared.Step.{Step}
-use Rattle.commands.specs.declared.Step.TheVariants.{Edge, Mask, Close, Refuse}
-use Rattle.commands.specs.Entries.{Entry, link, mask, masked, command_byte}
-use Rattle.commands.specs.Steps.{mask_step}
-use Rattle.commands.specs.Tables.{masked_in}
+use Rattle.commands.specs.declared.Step.TheVariants.{Edge, Mask, Close}
+use Rattle.commands.specs.Entries.{Entry, link, mask, earlier_of, command_byte}
 use Rattle.commands.proofs.Entries.{Allowed, Fresh}
 use Rattle.commands.proofs.Steps.{Means, step_means, step_of_law}
 use Rattle.amendments.specs.Amendments.{present, absent, Amendment, amend_edge, amend_mask, Permitted, state_byte, bytes_of_amendment, operands_of_amendment}
@@ -70,16 +68,16 @@ module _ (n : ℕ) (part : List ℕ) where
     pub spelled : part ≡ bytes_of_amendment c ++ drop (suc (operands_of_amendment c)) part
     pub permitted : Permitted n c
 
-  abbrev pub MeansHere : ℕ → Step → Type 0
-  MeansHere at (Edge s a b) = (checked_as (get_or part 0 0) ≡ command_byte s) × Begins (amend_edge (byte_state (get_or part 0 0)) a b)
-  MeansHere at (Mask a) = Begins (amend_mask a)
-  MeansHere at Close = (get_or part 0 0 ≡ 0xff) × (length part ≤ 1)
-  MeansHere at (Refuse f) = AmendmentFaultAt n part at f
+  abbrev pub MeansHere : ℕ → Result Step Fault → Type 0
+  MeansHere at (Ok (Edge s a b)) = (checked_as (get_or part 0 0) ≡ command_byte s) × Begins (amend_edge (byte_state (get_or part 0 0)) a b)
+  MeansHere at (Ok (Mask a)) = Begins (amend_mask a)
+  MeansHere at (Ok Close) = (get_or part 0 0 ≡ 0xff) × (length part ≤ 1)
+  MeansHere at (Err f) = AmendmentFaultAt n part at f
 
 pub amendment_means : (n : ℕ) (part : List ℕ) (at : ℕ) → 0 < length part → MeansHere n part at (amendment_step n part at)
 amendment_means n [] at some = absurd (omega arith)
 amendment_means n (c ∷ rest) at some =
-    go (amendment_step n (c ∷ rest) at) (step_means n [] (checked_as c ∷ rest) at (omega arith))
+    go (amendment_step n (c ∷ rest) at) (step_means (earlier_of []) n (checked_as c ∷ rest) at (omega arith))
   where
     -- the byte, and what is behind it
     byte : {d : ℕ} {l : List ℕ} → checked_as c ∷ rest ≡ d ∷ l → checked_as c ≡ d
@@ -88,23 +86,23 @@ amendment_means n (c ∷ rest) at some =
     operands : {d : ℕ} {l : List ℕ} → checked_as c ∷ rest ≡ d ∷ l → rest ≡ l
     operands e = ap (drop 1) e
 
-    go : (x : Step) → Means n [] (checked_as c ∷ rest) at x → MeansHere n (c ∷ rest) at x
-    go (Edge s a b) k = (
+    go : (x : Result Step Fault) → Means (earlier_of []) n (checked_as c ∷ rest) at x → MeansHere n (c ∷ rest) at x
+    go (Ok (Edge s a b)) k = (
       byte k.spelled,
       record {
         room = k.room;
         spelled = ap₂ (λ (x : ℕ) (l : List ℕ). x ∷ l) (sym (edge_byte c s (byte k.spelled))) (operands k.spelled);
-        permitted = k.fresh.allowed;
+        permitted = k.allowed;
       },
     )
-    go (Mask a) k =
+    go (Ok (Mask a)) k =
         record {
           room = k.room;
           spelled = ap₂ (λ (x : ℕ) (l : List ℕ). x ∷ l) (other_byte c 0x23 (byte k.spelled) (λ e. omega arith)) (operands k.spelled);
-          permitted = k.fresh.allowed;
+          permitted = k.allowed;
         }
-    go Close k = (other_byte c 0xff k.0 (λ e. omega arith), k.1)
-    go (Refuse f) k = k
+    go (Ok Close) k = (other_byte c 0xff k.0 (λ e. omega arith), k.1)
+    go (Err f) k = k
 
 -- ---- a command is read as what it says
 
@@ -113,19 +111,13 @@ fresh : (n : ℕ) (e : Entry) → Allowed n e → Fresh n [] e
 unfolding any
 fresh n e h = record { allowed = h; new = refl }
 
-pub amendment_read : (n : ℕ) (c : Amendment) (l : List ℕ) (at : ℕ) (cs : List Amendment) (next : Amendment → Decoded) → Permitted n c
+pub amendment_read : (n : ℕ) (c : Amendment) (l : List ℕ) (at : ℕ) (cs : List Amendment) (next : Amendment → Result SignedGraph Fault) → Permitted n c
     → follow_amendment (amendment_step n (bytes_of_amendment c ++ l) at) (get_or (bytes_of_amendment c ++ l) 0 0) n cs next ≡ next c
 amendment_read n (amend_edge (present Positive) a b) l at cs next h =
-    ap (λ (x : Step). follow_amendment x 0x21 n cs next) (step_of_law n [] (link Positive a b) l at (fresh n (link Positive a b) h))
+    ap (λ (x : Result Step Fault). follow_amendment x 0x21 n cs next) (step_of_law n [] (link Positive a b) l at (fresh n (link Positive a b) h))
 amendment_read n (amend_edge (present Negative) a b) l at cs next h =
-    ap (λ (x : Step). follow_amendment x 0x22 n cs next) (step_of_law n [] (link Negative a b) l at (fresh n (link Negative a b) h))
+    ap (λ (x : Result Step Fault). follow_amendment x 0x22 n cs next) (step_of_law n [] (link Negative a b) l at (fresh n (link Negative a b) h))
 amendment_read n (amend_edge absent a b) l at cs next h =
-    ap (λ (x : Step). follow_amendment x 0x24 n cs next) (step_of_law n [] (link Positive a b) l at (fresh n (link Positive a b) h))
+    ap (λ (x : Result Step Fault). follow_amendment x 0x24 n cs next) (step_of_law n [] (link Positive a b) l at (fresh n (link Positive a b) h))
 amendment_read n (amend_mask a) l at cs next h =
-    ap (λ (x : Step). follow_amendment x 0x23 n cs next) (step_of_law n [] (mask a) l at (fresh n (mask a) h))
-
--- ---- nothing is masked before
-
-pub none_masked : (n : ℕ) (behind : List ℕ) (at : ℕ) → mask_step (masked_in 0) n behind at ≡ mask_step (masked []) n behind at
-unfolding any
-none_masked n behind at = ap (λ (m : ℕ → Bool). mask_step m n behind at) (fun_ext mem_none)
+    ap (λ (x : Result Step Fault). follow_amendment x 0x23 n cs next) (step_of_law n [] (mask a) l at (fresh n (mask a) h))

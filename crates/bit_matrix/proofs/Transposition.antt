@@ -181,16 +181,12 @@ module _ {k at : ℕ} {before rows : List ℕ} (d : Exchanging k at before rows)
 
 -- ---- all six digits
 
-pub digit_length : (k : ℕ) (rows : List ℕ) → length (digit_exchanged k rows) ≡ 64
-unfolding digit_exchanged
-digit_length k rows = table_length (exchanged_at k rows)
-
 module _ (before : List ℕ) where
   abbrev was : ℕ → ℕ → Bool
   was p q = mem q (get_or before p 0)
 
   -- the k lowest digits exchanged, one after the other
-  abbrev pub exchanged : ℕ → List ℕ
+  abbrev exchanged : ℕ → List ℕ
   exchanged zero = before
   exchanged (suc k) = digit_exchanged k (exchanged k)
 

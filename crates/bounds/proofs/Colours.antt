@@ -14,7 +14,8 @@ use Rattle.vertex_set.proofs.Membership.{none_in, mem_lt, mem_or, mem_not, meet_
 use Rattle.vertex_set.proofs.LowestVertex.{lowest_lt, lowest_in}
 use Rattle.vertex_set.proofs.Sizes.{size_subset}
 use Rattle.signed_graph.specs.declared.SignedGraph.{SignedGraph}
-use Rattle.bounds.specs.declared.Places.{Places}
+use Rattle.signed_graph.specs.declared.Partners.{Partners}
+use Rattle.vertex_set.specs.declared.Sides.{Sides}
 use Rattle.clique.specs.Balance.{Parts}
 use Rattle.signed_graph.specs.Graphs.{with_tables}
 use Rattle.signed_graph.specs.Tables.{ForSound}
@@ -60,68 +61,72 @@ module _ (positive negative : List ℕ) (near : ℕ) where
         across = λ u w m _. none_in u m;
       }
 
-  module _ {members apart left : ℕ} (h : Picking members apart left) (pos : 0 < left) (v : ℕ) (is : v ≡ lowest left)
-      (one : ℕ) (is_one : one ≡ single v) where
+  module _ {members apart left : ℕ} (h : Picking members apart left) (pos : 0 < left) (v : ℕ) (is : v ≡ lowest left) where
     pub picking_small : v < 64
     picking_small = subst (λ (z : ℕ). z < 64) (sym is) (lowest_lt left pos h.fits)
 
     here : mem v left ≡ true
     here = ap (λ (z : ℕ). mem z left) is ∙ lowest_in left pos h.fits
 
-    abbrev after : ℕ
-    after = bit_and left (outside (bit_or (get_or positive v 0) one))
+  module _ {members apart left : ℕ} (h : Picking members apart left) (pos : 0 < left) (v : ℕ) (is : v ≡ lowest left)
+      (one : ℕ) (is_one : one ≡ single v) (of : Partners) where
+    small : v < 64
+    small = picking_small h pos v is
 
-    after_off : (w : ℕ) → mem w after ≡ true → mem w (bit_or (get_or positive v 0) one) ≡ false
-    after_off w m = outside_off w (bit_or (get_or positive v 0) one) (meet_right w left (outside (bit_or (get_or positive v 0) one)) m)
+    v-in : mem v left ≡ true
+    v-in = here h pos v is
+
+    abbrev after : ℕ
+    after = bit_and left (outside (bit_or of.positive one))
+
+    after_off : (w : ℕ) → mem w after ≡ true → mem w (bit_or of.positive one) ≡ false
+    after_off w m = outside_off w (bit_or of.positive one) (meet_right w left (outside (bit_or of.positive one)) m)
 
     after_in : Subset after left
-    after_in w = meet_left w left (outside (bit_or (get_or positive v 0) one))
+    after_in w = meet_left w left (outside (bit_or of.positive one))
 
     member_cases : (A : Type 0) (u : ℕ) → mem u (bit_or members one) ≡ true → (mem u members ≡ true → A) → (u ≡ v → A) → A
-    member_cases A u m = joined_cases v picking_small A u members (ap (λ (z : ℕ). mem u (bit_or members z)) (sym is_one) ∙ m)
+    member_cases A u m = joined_cases v small A u members (ap (λ (z : ℕ). mem u (bit_or members z)) (sym is_one) ∙ m)
 
     pub picking_falls : size after < size left
     picking_falls =
-        size_falls v after left picking_small after_in here
+        size_falls v after left small after_in v-in
         (refute (mem v after) (λ m.
-        clash (mem v (bit_or (get_or positive v 0) one))
-        (ap (λ (z : ℕ). mem v (bit_or (get_or positive v 0) z)) is_one ∙ joined_in v picking_small (get_or positive v 0))
+        clash (mem v (bit_or of.positive one))
+        (ap (λ (z : ℕ). mem v (bit_or of.positive z)) is_one ∙ joined_in v small of.positive)
         (after_off v m)))
 
-    pub picking_step : Picking (bit_or members one) (bit_and apart (outside (get_or negative v 0))) after
-    picking_step =
+    pub picking_step : of ≡ record { positive = get_or positive v 0; negative = get_or negative v 0 }
+        → Picking (bit_or members one) (bit_and apart (outside of.negative)) after
+    picking_step rows =
         record {
-          fits = lt_of_le_of_lt (and_le_l left (outside (bit_or (get_or positive v 0) one))) h.fits;
+          fits = lt_of_le_of_lt (and_le_l left (outside (bit_or of.positive one))) h.fits;
           near_of = λ p m. member_cases (mem p near ≡ true) p m (h.near_of p)
-              (λ e. ap (λ (z : ℕ). mem z near) e ∙ h.left_of v here);
+              (λ e. ap (λ (z : ℕ). mem z near) e ∙ h.left_of v v-in);
           left_of = λ p m. h.left_of p (after_in p m);
           inside = λ u w ne mu mw.
               let A : Type 0 = (mem w (get_or positive u 0) && mem u (get_or positive w 0)) ≡ false in
               member_cases A u mu
               (λ x. member_cases A w mw (λ y. h.inside u w ne x y)
               (λ y. fails_left (mem w (get_or positive u 0)) (mem u (get_or positive w 0))
-              (ap (λ (z : ℕ). mem z (get_or positive u 0)) y ∙ h.ahead u v x here)))
+              (ap (λ (z : ℕ). mem z (get_or positive u 0)) y ∙ h.ahead u v x v-in)))
               (λ x. member_cases A w mw
               (λ y. fails_right (mem w (get_or positive u 0)) (mem u (get_or positive w 0))
-              (ap (λ (z : ℕ). mem z (get_or positive w 0)) x ∙ h.ahead w v y here))
+              (ap (λ (z : ℕ). mem z (get_or positive w 0)) x ∙ h.ahead w v y v-in))
               (λ y. absurd (ne (x ∙ sym y))));
           ahead = λ u w mu mw.
               member_cases (mem w (get_or positive u 0) ≡ false) u mu (λ x. h.ahead u w x (after_in w mw))
-              (λ x. ap (λ (z : ℕ). mem w (get_or positive z 0)) x
-              ∙ neither_left (mem w (get_or positive v 0)) (mem w one) (sym (mem_or w (get_or positive v 0) one) ∙ after_off w mw));
+              (λ x. ap (λ (z : ℕ). mem w (get_or positive z 0)) x ∙ ap (mem w) (λ k. (sym rows k).positive)
+              ∙ neither_left (mem w of.positive) (mem w one) (sym (mem_or w of.positive one) ∙ after_off w mw));
           across = λ u w mu mw.
               member_cases (mem w (get_or negative u 0) ≡ false) u mu
-              (λ x. h.across u w x (meet_left w apart (outside (get_or negative v 0)) mw))
-              (λ x. ap (λ (z : ℕ). mem w (get_or negative z 0)) x
-              ∙ outside_off w (get_or negative v 0) (meet_right w apart (outside (get_or negative v 0)) mw));
+              (λ x. h.across u w x (meet_left w apart (outside of.negative) mw))
+              (λ x. ap (λ (z : ℕ). mem w (get_or negative z 0)) x ∙ ap (mem w) (λ k. (sym rows k).negative)
+              ∙ outside_off w of.negative (meet_right w apart (outside of.negative) mw));
         }
 
-  pub picking_end : {members apart left : ℕ} → Picking members apart left
-      → Picked positive negative near (record { left = members; right = apart })
-  picking_end h = record { near_of = h.near_of; inside = h.inside; across = h.across }
-
 -- an independent set of the left, and one of the vertices for the right that are joined to none of it
-pub both_picked : {positive negative : List ℕ} {left : ℕ} (first second : Places) → Picked positive negative left first
+pub both_picked : {positive negative : List ℕ} {left : ℕ} (first second : Sides) → Picked positive negative left first
     → Picked positive negative first.right second
     → ColourClass positive negative (record { left = first.left; right = second.left })
 both_picked first second a b =
@@ -130,7 +135,7 @@ both_picked first second a b =
 -- ---- classes that cover the candidates
 
 -- of a balanced set with these sides, a class has at most one vertex
-class_one : (g : SignedGraph) (l r : ℕ) → Parts g l r → (c : Places) → ColourClass g.positive g.negative c
+class_one : (g : SignedGraph) (l r : ℕ) → Parts g l r → (c : Sides) → ColourClass g.positive g.negative c
     → size (bit_and l c.left) + size (bit_and r c.right) ≤ 1
 class_one g l r h c k =
     size_class (bit_and l c.left) (bit_and r c.right)
@@ -173,7 +178,7 @@ module _ (positive negative : List ℕ) (left right : ℕ) where
         size_subset r (bit_and r right) (λ p m. meet_in p r right m (in_r p m)),
       )
 
-  pub coloured_step : (near far colours : ℕ) → Coloured near far colours → (c : Places) → ColourClass positive negative c
+  pub coloured_step : (near far colours : ℕ) → Coloured near far colours → (c : Sides) → ColourClass positive negative c
       → c.left < 2 ^ 64 → c.right < 2 ^ 64
       → Coloured (bit_and near (outside c.left)) (bit_and far (outside c.right)) (colours + 1)
   coloured_step near far colours h c k fits-l fits-r any so l r parts in_l in_r =

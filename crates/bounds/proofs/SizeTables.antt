@@ -12,11 +12,12 @@ use Rattle.vertex_set.specs.Sets.{mem, size, single, others}
 use Rattle.vertex_set.proofs.Booleans.{clash, cases}
 use Rattle.vertex_set.proofs.Membership.{none_in, meet_in, meet_left, meet_right, union_left, union_right, union_cases}
 use Rattle.signed_graph.specs.declared.SignedGraph.{SignedGraph}
+use Rattle.signed_graph.specs.declared.Partners.{Partners}
 use Rattle.signed_graph.specs.Graphs.{vertices, with_tables}
 use Rattle.signed_graph.proofs.Soundness.{Sound, to_sound, vertex_below}
 use Rattle.clique.specs.Balance.{Parts}
 use Rattle.signed_graph.specs.Tables.{positives, negatives, ForSound}
-use Rattle.bounds.specs.Bounds.{AtMostFrom, Tabled, AtMostBy, TabledFrom, SizeTable}
+use Rattle.bounds.specs.Bounds.{AtMostFrom, AtMostBy, TabledFrom, SizeTable}
 use Rattle.vertex_set.proofs.Singles.{single_in, single_is, others_lack}
 use Rattle.clique.proofs.Parts.{parts_flip}
 use Rattle.vertex_set.proofs.SizeBounds.{size_empty}
@@ -81,19 +82,18 @@ module _ (table positive negative : List ℕ) (v all above most : ℕ) where
   pub bound_first : most ≡ 0 → Bound 1
   bound_first z = let e : most + 1 ≡ 1 = omega arith in subst Bound e bound_grows
 
-  pub bound_stays : 0 < most
-      → AtMostBy table positive negative (bit_and (get_or positive v 0) above) (bit_and (get_or negative v 0) above) (most - 1) → Bound most
-  bound_stays pos few any so _ h =
+  pub bound_stays : 0 < most → (of : Partners) → of ≡ record { positive = get_or positive v 0; negative = get_or negative v 0 }
+      → AtMostBy table positive negative (bit_and of.positive above) (bit_and of.negative above) (most - 1) → Bound most
+  bound_stays pos of rows few any so _ h =
       let e : most - 1 + 1 ≡ most = omega arith in
       subst (AtMostFrom g v) e
       (from_next g s v (most - 1)
       (λ a b f in-a in_b.
-      few any so (λ u m. h.tabled u (union_cases (mem u above ≡ true) u
-      (bit_and (get_or positive v 0) above) (bit_and (get_or negative v 0) above) m
-      (λ x. meet_right u (get_or positive v 0) above x) (λ x. meet_right u (get_or negative v 0) above x)))
+      few any so (λ u m. h.tabled u (union_cases (mem u above ≡ true) u (bit_and of.positive above) (bit_and of.negative above) m
+      (meet_right u of.positive above) (meet_right u of.negative above)))
       a b f
-      (λ p m. meet_in p (get_or positive v 0) above (in-a p m).1 (h.has p (in-a p m).0 (f.usable_l p m)))
-      (λ p m. meet_in p (get_or negative v 0) above (in_b p m).1 (h.has p (in_b p m).0 (f.usable_r p m))))
+      (λ p m. meet_in p of.positive above (ap (λ (z : Partners). mem p z.positive) rows ∙ (in-a p m).1) (h.has p (in-a p m).0 (f.usable_l p m)))
+      (λ p m. meet_in p of.negative above (ap (λ (z : Partners). mem p z.negative) rows ∙ (in_b p m).1) (h.has p (in_b p m).0 (f.usable_r p m))))
       (subst (AtMostFrom g (v + 1)) (sym e) h.most))
     where
       g : SignedGraph
@@ -144,9 +144,6 @@ module _ (g : SignedGraph) (so : Sound g) where
           (h.tabled u (union_cases (mem u above ≡ true) u above one i (λ x. x) (λ x.
           absurd (e (single_is v small u (meet_left u (single v) (vertices g) (ap (mem u) (sym is_one) ∙ x)))))))
 
-  tabled_end : {table : List ℕ} {above most : ℕ} → TabledFrom g table 0 above most → Tabled g table (vertices g)
-  tabled_end h v m = h.tabled v (h.has v (omega arith) m)
-
 -- the table has bounds from v up, and at most n - v vertices are in a balanced set there
 module _ (n all : ℕ) (positive negative : List ℕ) where
   pub record Tabling (table : List ℕ) (above most v : ℕ) : Type 0 where
@@ -178,11 +175,6 @@ module _ (n all : ℕ) (positive negative : List ℕ) where
             subst (λ (z : ℕ). TabledFrom g table z above most) e (h.bounds any so has-n is) in
             tabled_step g (to_sound g so) (v - 1) m (omega (arith, h.low)) h.whole f (bound any so is f) one (rw is is_one);
       }
-
-  pub tabling_end : {table : List ℕ} {above most v : ℕ} → Tabling table above most v → v ≡ 0 → SizeTable n all positive negative table
-  tabling_end {table} {above} {most} h z any so e is =
-      tabled_end _ (to_sound _ so)
-      (subst (λ (x : ℕ). TabledFrom (with_tables any positive negative) table x above most) z (h.bounds any so e is))
 
   -- no sound graph has more than 64 vertices
   pub tabled_none : (table : List ℕ) → 64 < n → SizeTable n all positive negative table

@@ -1,16 +1,20 @@
 -- For proofs: bounds on the size of the balanced sets that keep their sides within given vertices. Assumes nothing.
-use Rattle.std.specs.Prelude.{ℕ, ◌+◌, ◌-◌, ◌^◌, ◌≤◌, ◌≡◌, ◌≢◌, Bool, true, false, ◌&&◌, List, get_or}
-use Rattle.std.specs.Int.Bits.{bit_or}
+use Rattle.std.specs.Prelude.{ℕ, ◌+◌, ◌-◌, ◌≤◌, ◌≡◌, ◌≢◌, true, false, ◌&&◌, List, get_or}
+use Rattle.std.specs.Int.Bits.{bit_and, bit_or}
 use Rattle.vertex_set.specs.Sets.{mem, Subset, size}
 use Rattle.signed_graph.specs.declared.SignedGraph.{SignedGraph}
 use Rattle.signed_graph.specs.Graphs.{vertices}
-use Rattle.bounds.specs.declared.Places.{Places}
+use Rattle.vertex_set.specs.declared.Sides.{Sides}
 use Rattle.clique.specs.Balance.{Parts}
 use Rattle.signed_graph.specs.Tables.{ForSound}
 
 -- every balanced set with its sides within these has at most m vertices
 abbrev pub AtMost : SignedGraph → ℕ → ℕ → ℕ → Type 0
 AtMost g left right m = (l r : ℕ) → Parts g l r → Subset l left → Subset r right → size l + size r ≤ m
+
+-- the sides, as far as they are in these
+abbrev pub meet : Sides → ℕ → ℕ → Sides
+meet s left right = record { left = bit_and s.left left; right = bit_and s.right right }
 
 -- ---- colours
 
@@ -23,13 +27,13 @@ abbrev pub Unjoined : List ℕ → ℕ → ℕ → Type 0
 Unjoined table s t = (u w : ℕ) → mem u s ≡ true → mem w t ≡ true → mem w (get_or table u 0) ≡ false
 
 -- vertices of `near` that are independent by positive edges; those on the right are joined to none of them by a negative edge
-pub record Picked (positive negative : List ℕ) (near : ℕ) (r : Places) : Type 0 where
+pub record Picked (positive negative : List ℕ) (near : ℕ) (r : Sides) : Type 0 where
   pub near_of : Subset r.left near
   pub inside : Independent positive r.left
   pub across : Unjoined negative r.left r.right
 
 -- no two of the vertices for the left and for the right are together in a balanced set with those sides
-pub record ColourClass (positive negative : List ℕ) (r : Places) : Type 0 where
+pub record ColourClass (positive negative : List ℕ) (r : Sides) : Type 0 where
   pub inside_l : Independent positive r.left
   pub inside_r : Independent positive r.right
   pub across : Unjoined negative r.left r.right
@@ -60,11 +64,6 @@ pub record TabledFrom (g : SignedGraph) (table : List ℕ) (v above m : ℕ) : T
 abbrev pub SizeTable : ℕ → ℕ → List ℕ → List ℕ → List ℕ → Type 0
 SizeTable n all positive negative table =
     ForSound positive negative (λ g. g.n ≡ n → vertices g ≡ all → Tabled g table (vertices g))
-
--- all vertices where a test passes, else none
-abbrev pub all_if : Bool → ℕ
-all_if true = 2 ^ 64 - 1
-all_if false = 0
 
 -- ---- what is below a node
 

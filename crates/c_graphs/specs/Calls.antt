@@ -2,7 +2,8 @@
 use Rattle.std.specs.Prelude.{ℕ, min, List, [], ◌∷◌, length}
 use Rattle.signed_graph.specs.Graphs.{edgeless}
 use Rattle.signed_graph.specs.Calls.{graph_number, refusal_number}
-use Rattle.reduction.specs.Reductions.{reduced}
+use Rattle.reduction.specs.Reductions.{reduced, reduced_left, looks_left}
+use Rattle.commands.specs.Faults.{graph_given}
 use Rattle.edge_list.specs.Decoding.{decoded, decoded_number, decoded_place}
 use Rattle.canonical.specs.Encoding.{buffered, encoding_number, encoding_length}
 use Rattle.c_words.specs.Graphs.{graph_at, words_of}
@@ -32,7 +33,7 @@ decode_returns bytes graph answer =
 
 abbrev pub decode_graph : List ℕ → List ℕ → List ℕ → List ℕ
 decode_graph bytes graph answer =
-    words_after (own_refusal (length graph) (length answer) 1) (words_of (decoded bytes).graph) graph
+    words_after (own_refusal (length graph) (length answer) 1) (words_of (graph_given (decoded bytes))) graph
 
 abbrev pub decode_answer : List ℕ → List ℕ → List ℕ → List ℕ
 decode_answer bytes graph answer =
@@ -61,7 +62,7 @@ abbrev pub reduce_returns : List ℕ → ℕ → List ℕ → List ℕ → ℕ
 reduce_returns graph k to answer = number_after (reduce_refusal graph to answer) (refusal_number (graph_at graph) k)
 
 abbrev pub reduce_graph : List ℕ → ℕ → List ℕ → List ℕ → List ℕ
-reduce_graph graph k to answer = words_after (reduce_refusal graph to answer) (words_of (reduced (graph_at graph) k).graph) to
+reduce_graph graph k to answer = words_after (reduce_refusal graph to answer) (words_of (reduced_left (reduced (graph_at graph) k))) to
 
 abbrev pub reduce_answer : List ℕ → ℕ → List ℕ → List ℕ → List ℕ
-reduce_answer graph k to answer = words_after (reduce_refusal graph to answer) ((reduced (graph_at graph) k).looks ∷ []) answer
+reduce_answer graph k to answer = words_after (reduce_refusal graph to answer) (looks_left (reduced (graph_at graph) k) ∷ []) answer

@@ -2,7 +2,7 @@
 use Rattle.std.specs.Prelude.{ℕ, List, length}
 use Rattle.signed_graph.specs.Calls.{refusal_number}
 use Rattle.clique.specs.Verdicts.{classified}
-use Rattle.largest.specs.Largest.{largest_group, largest_number}
+use Rattle.largest.specs.Largest.{largest_group, sides_left, largest_number}
 use Rattle.counts.specs.Calls.{counts_of, counts_number}
 use Rattle.c_words.specs.Graphs.{graph_at}
 use Rattle.c_words.specs.Refusals.{graph_refusal, own_refusal, unless_refused, number_after, words_after}
@@ -25,7 +25,7 @@ largest_returns graph k answer =
 
 abbrev pub largest_answer : List ℕ → ℕ → List ℕ → List ℕ
 largest_answer graph k answer =
-    words_after (own_refusal (length graph) (length answer) 2) (largest_words (largest_group (graph_at graph) k)) answer
+    words_after (own_refusal (length graph) (length answer) 2) (largest_words (sides_left (largest_group (graph_at graph) k))) answer
 
 -- ---- counts
 

@@ -2,22 +2,16 @@
 #![tactic(auto)]
 
 ghost use Rattle.std.specs.Prelude.{◌≡◌};
-ghost use Rattle.clique.specs.Verdicts.{classified_number};
-ghost use Rattle.c_groups.specs.Answers.{verdict_words, classified_words};
+ghost use Rattle.c_words.specs.Refusals.{call_number};
+ghost use Rattle.c_groups.specs.Answers.{verdict_words};
 ghost use Rattle.c_groups.specs.Calls.{classify_returns, classify_answer, largest_returns, largest_answer, count_returns, count_counts};
 
-use clique::{Classified, Verdict};
-
-fn classified_number(classified: Classified) -> u64
-    ensures { result ≡ classified_number classified }
-{
-    match classified {
-        Classified::As(_) => 0,
-        Classified::Refused(why) => why.number(),
-    }
-}
+use c_words::CallRefusal;
+use clique::Verdict;
+use vertex_set::Sides;
 
 // A verdict and its data as words.
+// kept: the numbers are those of the C interface.
 fn verdict_words(verdict: Verdict) -> [u64; 4]
     ensures { result ≡ verdict_words verdict }
 {
@@ -34,55 +28,39 @@ fn verdict_words(verdict: Verdict) -> [u64; 4]
     }
 }
 
-fn classified_words(classified: Classified) -> [u64; 4]
-    ensures { result ≡ classified_words classified }
-{
-    match classified {
-        Classified::As(verdict) => verdict_words(verdict),
-        Classified::Refused(_) => [0, 0, 0, 0],
-    }
-}
-
 // Writes what a set is in the graph at threshold k.
-pub fn classify(graph: &[u64], k: u64, set: u64, answer: &mut [u64]) -> u64
-    ensures number { result ≡ classify_returns graph.now k answer.old }
+#[tactic(auto, using(c_words::proofs::Refusals::refusals))]
+pub fn classify(graph: &[u64], k: u64, set: u64, answer: &mut [u64]) -> Result<(), CallRefusal>
+    ensures number { call_number result ≡ classify_returns graph.now k answer.old }
     ensures words { answer.new ≡ classify_answer graph.now k set answer.old }
 {
-    let own = c_words::own_refusal(graph.len(), answer.len(), 4);
-    if own != 0 {
-        return own;
-    }
-    let classified = clique::classify(c_words::graph_at(graph), k, set);
-    let words = classified_words(classified);
-    c_words::put_words(&words, answer);
-    classified_number(classified)
+    let g = c_words::read_graph(graph)?;
+    c_words::check_answer(answer, 4)?;
+    let classified = clique::classify(g, k, set);
+    answer[..4].copy_from_slice(&classified.map_or([0; 4], verdict_words));
+    classified?;
+    Ok(())
 }
 
 // Writes the sides of the largest group for threshold k.
-pub fn largest(graph: &[u64], k: u64, answer: &mut [u64]) -> u64
-    ensures number { result ≡ largest_returns graph.now k answer.old }
+#[tactic(auto, using(c_words::proofs::Refusals::refusals))]
+pub fn largest(graph: &[u64], k: u64, answer: &mut [u64]) -> Result<(), CallRefusal>
+    ensures number { call_number result ≡ largest_returns graph.now k answer.old }
     ensures words { answer.new ≡ largest_answer graph.now k answer.old }
 {
-    let own = c_words::own_refusal(graph.len(), answer.len(), 2);
-    if own != 0 {
-        return own;
-    }
+    c_words::check_arrays(graph, answer, 2)?;
     let found = largest::largest(c_words::graph_at(graph), k);
-    let words = [found.left, found.right];
-    c_words::put_words(&words, answer);
-    let outcome = found.outcome;
-    outcome.number()
+    let sides = found.unwrap_or(Sides { left: 0, right: 0 });
+    answer[..2].copy_from_slice(&[sides.left, sides.right]);
+    found?;
+    Ok(())
 }
 
 // Writes for each set how many groups for threshold k contain it.
-pub fn count(graph: &[u64], k: u64, sets: &[u64], counts: &mut [u64]) -> u64
-    ensures number { result ≡ count_returns graph.now k sets.now counts.old }
+pub fn count(graph: &[u64], k: u64, sets: &[u64], counts: &mut [u64]) -> Result<(), CallRefusal>
+    ensures number { call_number result ≡ count_returns graph.now k sets.now counts.old }
     ensures words { counts.new ≡ count_counts graph.now k sets.now counts.old }
 {
-    let own = c_words::graph_refusal(graph.len());
-    if own != 0 {
-        return own;
-    }
-    let counting = counts::count_containing(c_words::graph_at(graph), k, sets, counts);
-    counting.number()
+    let g = c_words::read_graph(graph)?;
+    Ok(counts::count_containing(g, k, sets, counts)?)
 }

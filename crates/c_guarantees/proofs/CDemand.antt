@@ -9,16 +9,17 @@ use mathlib.Core.List.{List, [], ◌∷◌}
 use lib.Dec.{leb, eqb}
 use lib.ListN.{length, get_or}
 use borrow.Author.Tests.{leb-true, le-leb, eqb-true, eqb-false}
+use Rattle.std.specs.Prelude.{Result, Ok, Err}
+use Rattle.vertex_set.specs.declared.Sides.{Sides}
 use Rattle.vertex_set.specs.Lists.{Sorted}
 use Rattle.vertex_set.specs.Buffers.{overwritten}
 use Rattle.vertex_set.proofs.Booleans.{clash, cases}
 use Rattle.signed_graph.specs.declared.SignedGraph.{SignedGraph}
 use Rattle.signed_graph.specs.Soundness.{sound}
-use Rattle.signed_graph.specs.declared.Check.{Check}
-use Rattle.signed_graph.specs.declared.Check.TheVariants.{Accepted, Refused}
-use Rattle.signed_graph.specs.Calls.{graph_check, check_number, check_of, number_by, refusal_number}
+use Rattle.signed_graph.specs.declared.Refusal.{Refusal}
+use Rattle.signed_graph.specs.Calls.{Check, graph_check, answer_number, check_of, number_by, refusal_number}
 use Rattle.signed_graph.proofs.Calls.{call_check}
-use Rattle.commands.specs.Steps.{accepted}
+use Rattle.commands.specs.Faults.{graph_given}
 use Rattle.edge_list.specs.Decoding.{decoded}
 use Rattle.pages.specs.declared.Bookmark.{Bookmark}
 use Rattle.pages.specs.declared.Bookmark.TheVariants.{Start, After}
@@ -32,8 +33,7 @@ use Rattle.clique.proofs.Listing.{listing_exact}
 use Rattle.group_pages.specs.Records.{record_width, record_of}
 use Rattle.group_pages.specs.Calls.{due_groups, page_of, page_bytes, page_values_of}
 use Rattle.group_pages.proofs.Distinct.{records_differ}
-use Rattle.largest.specs.declared.LargestGroup.{LargestGroup}
-use Rattle.largest.specs.Largest.{larger, largest_of, largest_or_none, largest_group, largest_number}
+use Rattle.largest.specs.Largest.{larger, largest_of, largest_or_none, largest_group, sides_left, largest_number}
 use Rattle.largest.proofs.LargestOf.{largest_found}
 use Rattle.largest.proofs.Bests.{largest_number_law}
 use Rattle.guarantees.specs.Demand.{Call, Ran, is_accepted, Gets, call_of}
@@ -54,18 +54,18 @@ use Rattle.c_guarantees.proofs.Arrays.{decode_accepts, sound_S, array_reads}
 -- ---- numbers
 
 -- the number of a check is the call's
-check_number_law : (g : SignedGraph) (k : ℕ) → check_number (check_of g k) ≡ refusal_number g k
-check_number_law g k = (call_check g k (graph_check g) (leb k 32) refl refl).1
+answer_number_law : (g : SignedGraph) (k : ℕ) → answer_number (check_of g k) ≡ refusal_number g k
+answer_number_law g k = (call_check g k (graph_check g) (leb k 32) refl refl).1
 
 -- a page has the outcome of its check
 page_outcome : (t : Check) (m : Bookmark) (room : ℕ) (l : List Item) → (page_by item_set record_width t m room l).outcome ≡ t
 unfolding answer
-page_outcome Accepted m room l = refl
-page_outcome (Refused why) m room l = refl
+page_outcome (Ok x) m room l = refl
+page_outcome (Err why) m room l = refl
 
-refused_number : (t : Check) → check_number t ≢ 0 → is_accepted t ≡ false
-refused_number Accepted d = absurd (d refl)
-refused_number (Refused why) d = refl
+refused_number : (t : Check) → answer_number t ≢ 0 → is_accepted t ≡ false
+refused_number (Ok x) d = absurd (d refl)
+refused_number (Err why) d = refl
 
 -- a call's own numbers are below the interface's
 call_low : (sound small : Bool) → number_by sound small ≤ 11
@@ -99,8 +99,8 @@ module _ (c : PageCall) (h : PageRan c) where
 
   -- where there is none, what the page call of the base gives
   module _ (z : own ≡ 0) where
-    number_is : c.number ≡ check_number (check_of g c.k)
-    number_is = h.returned ∙ ap (λ (o : ℕ). number_after o (refusal_number g c.k)) z ∙ sym (check_number_law g c.k)
+    number_is : c.number ≡ answer_number (check_of g c.k)
+    number_is = h.returned ∙ ap (λ (o : ℕ). number_after o (refusal_number g c.k)) z ∙ sym (answer_number_law g c.k)
 
     bytes_are : c.out_exit ≡ page_bytes g c.k mark c.out_entry
     bytes_are = h.wrote ∙ ap (λ (o : ℕ). unless_refused o c.out_entry (page_bytes g c.k mark c.out_entry)) z
@@ -116,7 +116,7 @@ module _ (c : PageCall) (h : PageRan c) where
     outcome_is = page_outcome (check_of g c.k) mark (length c.out_entry) (due_groups g c.k mark)
 
     told_is : page_told c.number c.answer_exit ≡ page
-    told_is = ap₂ page_told (number_is ∙ ap check_number (sym outcome_is)) words_are ∙ page_read page c.answer_entry
+    told_is = ap₂ page_told (number_is ∙ ap answer_number (sym outcome_is)) words_are ∙ page_read page c.answer_entry
 
   -- the number tells whether there is one
   own_none : own_refused c ≡ false → own ≡ 0
@@ -130,7 +130,7 @@ module _ (c : PageCall) (h : PageRan c) where
   own_some t =
       cases (eqb own 0 ≡ false) (eqb own 0) (λ e.
       let low = call_low (sound g) (leb c.k 32) in
-      let is = number_is (eqb-true own 0 e) ∙ check_number_law g c.k in
+      let is = number_is (eqb-true own 0 e) ∙ answer_number_law g c.k in
       absurd (omega (arith, leb-true 101 c.number t, is, low))) (λ e. e)
 
   kept : own_refused c ≡ true → (c.out_exit ≡ c.out_entry) × (c.answer_exit ≡ c.answer_entry)
@@ -165,7 +165,7 @@ module _ (c : PageCall) (h : PageRan c) where
       base_idle : own_refused c ≡ false → Idle (page_step c)
       base_idle f =
           let z = own_none f in
-          let not_0 : check_number (check_of g c.k) ≢ 0 = λ q. eqb-false c.number 0 n (number_is z ∙ q) in
+          let not_0 : answer_number (check_of g c.k) ≢ 0 = λ q. eqb-false c.number 0 n (number_is z ∙ q) in
           let i = ran_idle (base_call c) (base_ran f (e f))
           (ap (λ (b : Bool). is_accepted (page_given_by b c).outcome) f ∙ ap (λ (p : Page). is_accepted p.outcome) (told_is z)
           ∙ ap is_accepted (outcome_is z) ∙ refused_number (check_of g c.k) not_0) in
@@ -174,8 +174,8 @@ module _ (c : PageCall) (h : PageRan c) where
 -- ---- the largest group
 
 largest_told : (l : List Item) → Sorted comes_before l → (number : ℕ) (words before : List ℕ)
-    → number ≡ check_number (largest_or_none (largest_of l)).outcome
-    → words ≡ overwritten (largest_words (largest_or_none (largest_of l))) before → LargestTold l number words
+    → number ≡ answer_number (largest_or_none (largest_of l))
+    → words ≡ overwritten (largest_words (sides_left (largest_or_none (largest_of l)))) before → LargestTold l number words
 unfolding largest_of
 largest_told [] h number words before n w =
     record {
@@ -198,9 +198,9 @@ largest_told (x ∷ l) h number words before n w =
       );
     }
 
-module _ (bytes : List ℕ) (is_graph : decoded bytes ≡ accepted (decoded bytes).graph) (k : ℕ) (small : k ≤ 32) where
+module _ (bytes : List ℕ) (is_graph : decoded bytes ≡ Ok (graph_given (decoded bytes))) (k : ℕ) (small : k ≤ 32) where
   abbrev S : SignedGraph
-  S = (decoded bytes).graph
+  S = graph_given (decoded bytes)
 
   abbrev sound_is : sound S ≡ true
   sound_is = sound_S bytes is_graph
@@ -229,7 +229,7 @@ module _ (bytes : List ℕ) (is_graph : decoded bytes ≡ accepted (decoded byte
   not_refused c h w four one =
       let reads = array_reads bytes is_graph k small c.graph w.1 in
       number_is c h (page_taken (length c.graph) (length c.answer_entry) c.kind reads.1 four one)
-      ∙ ap check_number (ap (check_of (graph_at c.graph)) w.0 ∙ one_check S k sound_is small (graph_at c.graph) reads.0)
+      ∙ ap answer_number (ap (check_of (graph_at c.graph)) w.0 ∙ one_check S k sound_is small (graph_at c.graph) reads.0)
 
   -- ---- the whole
 
@@ -242,9 +242,9 @@ module _ (bytes : List ℕ) (is_graph : decoded bytes ≡ accepted (decoded byte
       let is = one_largest S k sound_is small g reads.0 in
       largest_told (listing S k) (sorted S k sound_is small) (largest_returns graph k answer) (largest_answer graph k answer) answer
       (ap (λ (own : ℕ). number_after own (largest_number g k)) z ∙ sym (largest_number_law g k)
-      ∙ ap (λ (r : LargestGroup). check_number r.outcome) is)
-      (ap (λ (own : ℕ). words_after own (largest_words (largest_group g k)) answer) z
-      ∙ ap (λ (r : LargestGroup). overwritten (largest_words r) answer) is)
+      ∙ ap (λ (r : Result Sides Refusal). answer_number r) is)
+      (ap (λ (own : ℕ). words_after own (largest_words (sides_left (largest_group g k))) answer) z
+      ∙ ap (λ (r : Result Sides Refusal). overwritten (largest_words (sides_left r)) answer) is)
 
   whole : (calls : List PageCall) → PagesLinked bytes k Start calls → CDemand3 bytes S k calls
   whole calls h =

@@ -4,8 +4,9 @@ use Prim.Native.Nat.{ℕ, ◌≤◌}
 use mathlib.Core.Path.{◌≡◌, ap, ◌∙◌}
 use mathlib.Core.List.{List}
 use lib.ListN.{length}
+use Rattle.std.specs.Prelude.{Ok}
 use Rattle.signed_graph.specs.declared.SignedGraph.{SignedGraph}
-use Rattle.commands.specs.Steps.{accepted}
+use Rattle.commands.specs.Faults.{graph_given}
 use Rattle.edge_list.specs.Decoding.{decoded}
 use Rattle.counts.specs.Calls.{counts_of, counts_number}
 use Rattle.guarantees.proofs.Counts.{one_number, one_counts}
@@ -20,20 +21,20 @@ use Rattle.c_guarantees.proofs.Arrays.{decode_accepts, sound_S, array_reads}
 module _ (bytes before answer : List ℕ) (returned : decode_returns bytes before answer ≡ 0) (k : ℕ) (small : k ≤ 32)
     (graph : List ℕ) (of : ArrayOf bytes k graph) (sets counts : List ℕ) where
   abbrev S : SignedGraph
-  S = (decoded bytes).graph
+  S = graph_given (decoded bytes)
 
-  abbrev is_graph : decoded bytes ≡ accepted S
+  abbrev is_graph : decoded bytes ≡ Ok S
   is_graph = decode_accepts bytes before answer returned
 
   not_refused : graph_refusal (length graph) ≡ 0
   not_refused = graph_taken (length graph) (array_reads bytes is_graph k small graph of).1
 
-  pub c_count_number : count_returns graph k sets counts ≡ counts_number (decoded bytes).graph k sets counts
+  pub c_count_number : count_returns graph k sets counts ≡ counts_number (graph_given (decoded bytes)) k sets counts
   c_count_number =
       ap (λ (own : ℕ). number_after own (counts_number (graph_at graph) k sets counts)) not_refused
       ∙ one_number S k (sound_S bytes is_graph) small (graph_at graph) (array_reads bytes is_graph k small graph of).0 sets counts
 
-  pub c_counts : count_counts graph k sets counts ≡ counts_of (decoded bytes).graph k sets counts
+  pub c_counts : count_counts graph k sets counts ≡ counts_of (graph_given (decoded bytes)) k sets counts
   c_counts =
       ap (λ (own : ℕ). unless_refused own counts (counts_of (graph_at graph) k sets counts)) not_refused
       ∙ one_counts S k (sound_S bytes is_graph) small (graph_at graph) (array_reads bytes is_graph k small graph of).0 sets counts

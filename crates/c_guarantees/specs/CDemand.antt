@@ -1,11 +1,11 @@
 -- The users' third demand for the C calls, on arrays: what a list of calls of `mastpickle_list_page` writes, all calls together, where
 -- the answer of one gives the next its bookmark; and what `mastpickle_largest` says. The arrays for graphs are those that
 -- `mastpickle_decode` and `mastpickle_reduce` leave. S is the graph of an accepted list, k a threshold. Assumes nothing.
-use Rattle.std.specs.Prelude.{ℕ, ◌≤◌, ◌≡◌, ◌≢◌, ◌⊎◌, ◌↔◌, Bool, true, false, leb, eqb, length, get_or}
+use Rattle.std.specs.Prelude.{ℕ, ◌≤◌, ◌≡◌, ◌≢◌, ◌⊎◌, ◌↔◌, Bool, true, false, leb, eqb, length, get_or, Ok}
 use mathlib.Core.List.{List, [], ◌∷◌, Memᴰ}
 use Rattle.vertex_set.specs.Lists.{Sorted}
 use Rattle.signed_graph.specs.declared.SignedGraph.{SignedGraph}
-use Rattle.commands.specs.Steps.{accepted}
+use Rattle.commands.specs.Faults.{graph_given}
 use Rattle.edge_list.specs.Decoding.{decoded}
 use Rattle.clique.specs.Listing.{Item, Listed, comes_before, listing}
 use Rattle.pages.specs.declared.Bookmark.{Bookmark}
@@ -129,7 +129,7 @@ pub record LargestTold (l : List Item) (number : ℕ) (words : List ℕ) : Type 
 -- the whole
 pub record CDemand3 (bytes : List ℕ) (S : SignedGraph) (k : ℕ) (calls : List PageCall) : Type 0 where
   -- the list is accepted, and S is its graph
-  pub graph : decoded bytes ≡ accepted S
+  pub graph : decoded bytes ≡ Ok S
   -- the listing is in listing order, so each group is in it once; and in it is exactly what is a group, with its sides
   pub order : Sorted comes_before (listing S k)
   pub exact : (x : Item) → Memᴰ x (listing S k) ↔ Listed S k x
@@ -148,4 +148,4 @@ pub record CDemand3 (bytes : List ℕ) (S : SignedGraph) (k : ℕ) (calls : List
 -- ones among them, with arrays of any lengths
 abbrev pub CStatement : Type 0
 CStatement = (bytes before answer : List ℕ) → decode_returns bytes before answer ≡ 0 → (k : ℕ) → k ≤ 32 → (calls : List PageCall)
-    → PagesLinked bytes k Start calls → CDemand3 bytes (decoded bytes).graph k calls
+    → PagesLinked bytes k Start calls → CDemand3 bytes (graph_given (decoded bytes)) k calls

@@ -1,5 +1,6 @@
 // The C calls that demand 3 speaks of. Each does what the call of its name does, and ensures what the theorem on arrays asks of it.
 // Nothing calls them: they tie the theorem to the calls.
+// kept: the theorem's four calls stand together; no call's own contract can name PageRan and ArrayOf, which stand above it.
 #![tactic(auto)]
 
 ghost use Rattle.std.specs.Prelude.{◌≡◌, List, ℕ};

@@ -1,3 +1,3 @@
 pub mod Reading
-pub mod Refusals
 pub mod Records
+pub mod Refusals

@@ -3,31 +3,23 @@ use Prim.Native.Nat.{ℕ, ◌≤◌}
 use native.Mathlib.Omega.{arith}
 use mathlib.Core.Path.{◌≡◌, refl}
 use mathlib.Core.Logic.{◌≢◌}
-use lib.Dec.{ltb}
-use borrow.Author.Tests.{le-ltb}
-use Rattle.vertex_set.proofs.Alternatives.{first_of}
+use Rattle.std.proofs.lemmas.Bool.Decides.{nat_tests}
 use Rattle.pages.specs.declared.Bookmark.{Bookmark}
 use Rattle.pages.specs.declared.Bookmark.TheVariants.{Start, After}
 use Rattle.pages.specs.Answers.{mark_kind}
 use Rattle.c_words.specs.Graphs.{graph_words}
-use Rattle.c_words.specs.Refusals.{own_refusal}
-use Rattle.c_words.proofs.Refusals.{arrays_long}
-use Rattle.c_pages.specs.Refusals.{page_refusal}
-
--- where it is not, its arrays are long enough
-pub page_long : {r : ℕ} → r ≡ 0 → (graph answer kind : ℕ) → r ≡ page_refusal graph answer kind → (graph_words ≤ graph) × (4 ≤ answer)
-unfolding page_refusal
-page_long z graph answer kind e = arrays_long z graph answer 4 _ e
+use Rattle.c_words.specs.Refusals.{graph_refusal, answer_refusal, own_refusal}
+use Rattle.c_pages.specs.Refusals.{kind_refusal, page_refusal}
 
 -- where it is a refusal of the interface itself, it is from 101 up
 abbrev pub High : ℕ → Type 0
 High own = own ≢ 0 → 101 ≤ own
 
 module _ (graph answer : ℕ) where
-  -- where they are, and the kind is 0 or 1, it is not
+  -- where its arrays are long enough, and the kind is 0 or 1, it is not
   pub page_taken : (kind : ℕ) → graph_words ≤ graph → 4 ≤ answer → kind ≤ 1 → page_refusal graph answer kind ≡ 0
   unfolding page_refusal
-  page_taken kind g a h = simp (le-ltb graph graph_words g, le-ltb answer 4 a, le-ltb 1 kind h)
+  page_taken kind = grind (arith, nat_tests)
 
   -- the kind of a bookmark that was written is never why
   pub mark_taken : (m : Bookmark) → page_refusal graph answer (mark_kind m) ≡ own_refusal graph answer 4
@@ -38,7 +30,21 @@ module _ (graph answer : ℕ) where
   -- its numbers
   pub page_high : (kind : ℕ) → High (page_refusal graph answer kind)
   unfolding page_refusal
-  page_high kind =
-      first_of High (ltb graph graph_words) 101 _ (λ _ _. omega arith) (λ _.
-      first_of High (ltb answer 4) 102 _ (λ _ _. omega arith) (λ _.
-      first_of High (ltb 1 kind) 103 0 (λ _ _. omega arith) (λ _ d. absurd (d refl))))
+  page_high kind = grind (arith, nat_tests)
+
+-- the graph is looked at first, then the answer, then the kind
+pub page_graph : (graph answer kind : ℕ) → graph_refusal graph ≢ 0 → page_refusal graph answer kind ≡ graph_refusal graph
+unfolding graph_refusal page_refusal
+page_graph graph answer kind = grind (arith, nat_tests)
+
+pub page_answer : (graph answer kind : ℕ) → graph_refusal graph ≡ 0 → answer_refusal answer 4 ≢ 0
+    → page_refusal graph answer kind ≡ answer_refusal answer 4
+unfolding graph_refusal answer_refusal page_refusal
+page_answer graph answer kind = grind (arith, nat_tests)
+
+pub page_kind : (graph answer kind : ℕ) → graph_refusal graph ≡ 0 → answer_refusal answer 4 ≡ 0
+    → page_refusal graph answer kind ≡ kind_refusal kind
+unfolding graph_refusal answer_refusal page_refusal
+page_kind graph answer kind = grind (arith, nat_tests)
+
+pub ruleset page_refusals = (page_graph, page_answer, page_kind)

@@ -8,6 +8,10 @@ use Rattle.c_words.specs.Refusals.{short_graph, short_answer}
 abbrev pub no_bookmark : ℕ → Option ℕ
 no_bookmark kind = provided (ltb 1 kind) 103
 
+-- the refusal by the kind alone, 0 where there is none
+abbrev pub kind_refusal : ℕ → ℕ
+kind_refusal kind = no_bookmark kind or_else 0
+
 -- the refusal of a page, 0 where there is none
 unfoldable pub page_refusal : ℕ → ℕ → ℕ → ℕ
 page_refusal graph answer kind = short_graph graph or_else short_answer answer 4 or_else no_bookmark kind or_else 0

@@ -12,11 +12,6 @@ use Rattle.signed_graph.specs.Soundness.{sound}
 use Rattle.signed_graph.proofs.Soundness.{Sound, to_sound}
 use Rattle.c_words.specs.Graphs.{graph_words, words_of, graph_at}
 
--- what is written of a graph is written of its equal
-pub written_as : (before : List ℕ) {out : List ℕ} {g h : SignedGraph} → g ≡ h → out ≡ overwritten (words_of g) before
-    → out ≡ overwritten (words_of h) before
-written_as before e is = is ∙ ap (λ (x : SignedGraph). overwritten (words_of x) before) e
-
 -- an array keeps its length when its front is overwritten
 overwritten_long : (words before : List ℕ) → length words ≤ length before → length (overwritten words before) ≡ length before
 overwritten_long words before h =

@@ -7,13 +7,13 @@ use lib.Dec.{ltb}
 use lib.ListN.{length, take}
 use lib.Seq.{take-append_seam}
 use borrow.Author.Tests.{le-ltb}
+use Rattle.std.specs.Prelude.{Ok}
 use Rattle.vertex_set.proofs.Alternatives.{passes_by}
 use Rattle.signed_graph.specs.declared.SignedGraph.{SignedGraph}
 use Rattle.signed_graph.specs.Soundness.{sound}
 use Rattle.signed_graph.proofs.Soundness.{Sound, to_sound}
 use Rattle.commands.specs.declared.Sign.{Sign}
 use Rattle.edge_list.specs.Acceptance.{ListOf, given_by, masked_by}
-use Rattle.commands.specs.Steps.{accepted}
 use Rattle.edge_list.specs.Decoding.{decoded}
 use Rattle.canonical.specs.Canonical.{CanonicalForm, ordered_entries, canonical}
 use Rattle.canonical.specs.Encoding.{encoded, buffered, encoded_length}
@@ -22,10 +22,10 @@ use Rattle.canonical.proofs.Canonical.{entries_ordered, entries_given, entries_m
 
 -- ---- the canonical form is an edge list of its graph
 
-canonical_accepted : (g : SignedGraph) → sound g ≡ true → decoded (canonical g) ≡ accepted g
+canonical_accepted : (g : SignedGraph) → sound g ≡ true → decoded (canonical g) ≡ Ok g
 canonical_accepted g e =
     let h : Sound g = to_sound g e in
-    list_accepted g.n (ordered_entries g) h.small (entries_proper g h) ∙ ap accepted (entries_graph g h)
+    list_accepted g.n (ordered_entries g) h.small (entries_proper g h) ∙ ap Ok (entries_graph g h)
 
 -- ---- and the canonical form of every list that gives this graph
 
@@ -75,11 +75,11 @@ module _ (g : SignedGraph) (out : List ℕ) (e : sound g ≡ true) (room : lengt
       fits = le-ltb (length out) (length (canonical g)) room
 
   -- what is encoded decodes to its graph
-  pub encode_decode : decoded (written_by g out) ≡ accepted g
+  pub encode_decode : decoded (written_by g out) ≡ Ok g
   encode_decode = ap decoded writes_canonical ∙ canonical_accepted g e
 
 -- what is decoded encodes to the canonical form of the list
-pub decode_encode : (bytes : List ℕ) (g : SignedGraph) (out : List ℕ) (e : decoded bytes ≡ accepted g) → length (canonical g) ≤ length out
+pub decode_encode : (bytes : List ℕ) (g : SignedGraph) (out : List ℕ) (e : decoded bytes ≡ Ok g) → length (canonical g) ≤ length out
     → CanonicalForm g.n (given_by (accepted_words bytes g e)) (masked_by (accepted_words bytes g e)) (written_by g out)
 decode_encode bytes g out e room =
     let w : ListOf bytes g = accepted_words bytes g e in

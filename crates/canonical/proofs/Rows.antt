@@ -9,17 +9,20 @@ use lib.ListN.{length, get_or, length-append}
 use borrow.Author.Tests.{lt-ltb, le-ltb}
 use Rattle.vertex_set.specs.Lists.{All}
 use Rattle.vertex_set.specs.Ranges.{gather}
-use Rattle.vertex_set.specs.Sets.{mem, size, lowest, over_members}
+use Rattle.vertex_set.specs.Members.{TakesLowest}
+use Rattle.vertex_set.specs.Sets.{mem, size, over_members}
 use Rattle.vertex_set.proofs.Booleans.{clash, fails_left, fails_right}
 use Rattle.vertex_set.proofs.Ranges.{gather_more, gather_end}
 use Rattle.vertex_set.proofs.Sums.{sum_cong, sum_past, length_sum}
 use Rattle.vertex_set.proofs.Membership.{mem_past, mem_none}
-use Rattle.vertex_set.proofs.LowestVertex.{rest}
 use Rattle.vertex_set.proofs.Gathering.{gather_part, gather_cong, over_none, over_lowest, length_over}
 use Rattle.vertex_set.proofs.SizeBounds.{size_empty}
 use Rattle.signed_graph.specs.declared.SignedGraph.{SignedGraph}
+use Rattle.signed_graph.specs.declared.Partners.{Partners}
+use Rattle.signed_graph.specs.Tables.{positives, negatives, members_above}
 use Rattle.signed_graph.specs.Graphs.{positive_edge, negative_edge, edge, edge_count}
-use Rattle.signed_graph.proofs.Soundness.{Sound, high_row}
+use Rattle.signed_graph.specs.Soundness.{sound}
+use Rattle.signed_graph.proofs.Soundness.{Sound, to_sound, high_row}
 use Rattle.signed_graph.proofs.EdgeCounts.{mem_above, above, lower_all}
 use Rattle.commands.specs.Entries.{Entry, link, mask, command_byte, bytes_of, entry_bytes}
 use Rattle.canonical.specs.Canonical.{edge_by, edge_between, edges_above, ordered_edges, masks_of, ordered_masks, ordered_entries, canonical}
@@ -70,12 +73,12 @@ module _ (positive p : ℕ) where
   unfolding entry_bytes edges_to
   bytes_none s e = ap (λ (x : ℕ). entry_bytes (edges_to positive x p)) e ∙ ap entry_bytes (over_none to)
 
-  pub bytes_lowest : (s q command : ℕ) → 0 < s → s < 2 ^ 64 → q ≡ lowest s → command ≡ command_byte (sign_by (mem q positive))
-      → entry_bytes (edges_to positive s p) ≡ (command ∷ p ∷ q ∷ []) ++ entry_bytes (edges_to positive (rest s) p)
+  pub bytes_lowest : {s q left command : ℕ} → s < 2 ^ 64 → TakesLowest s q left → command ≡ command_byte (sign_by (mem q positive))
+      → entry_bytes (edges_to positive s p) ≡ (command ∷ p ∷ q ∷ []) ++ entry_bytes (edges_to positive left p)
   unfolding entry_bytes edges_to
-  bytes_lowest s q command pos h e is =
-      ap entry_bytes (over_lowest to s pos h ∙ ap (λ (x : ℕ). to x ++ edges_to positive (rest s) p) (sym e))
-      ∙ ap (λ (x : ℕ). x ∷ p ∷ q ∷ entry_bytes (edges_to positive (rest s) p)) (sym is)
+  bytes_lowest {s} {q} {left} {command} h t is =
+      ap entry_bytes (over_lowest to s t.some h ∙ ap₂ (λ (x r : ℕ). to x ++ edges_to positive r p) (sym t.is_lowest) (sym t.is_rest))
+      ∙ ap (λ (x : ℕ). x ∷ p ∷ q ∷ entry_bytes (edges_to positive left p)) (sym is)
 
 -- ---- the masks of a set, from its lowest member up
 
@@ -83,10 +86,11 @@ pub masks_none : (s : ℕ) → s ≡ 0 → entry_bytes (masks_of s) ≡ []
 unfolding entry_bytes masks_of
 masks_none s e = ap (λ (x : ℕ). entry_bytes (masks_of x)) e ∙ ap entry_bytes (over_none (λ p. mask p ∷ []))
 
-pub masks_lowest : (s p : ℕ) → 0 < s → s < 2 ^ 64 → p ≡ lowest s → entry_bytes (masks_of s) ≡ 0x23 ∷ p ∷ entry_bytes (masks_of (rest s))
+pub masks_lowest : {s p left : ℕ} → s < 2 ^ 64 → TakesLowest s p left
+    → entry_bytes (masks_of s) ≡ (0x23 ∷ p ∷ []) ++ entry_bytes (masks_of left)
 unfolding entry_bytes masks_of
-masks_lowest s p pos h e =
-    ap entry_bytes (over_lowest (λ p. mask p ∷ []) s pos h ∙ ap (λ (x : ℕ). mask x ∷ masks_of (rest s)) (sym e))
+masks_lowest {s} {p} {left} h t =
+    ap entry_bytes (over_lowest (λ p. mask p ∷ []) s t.some h ∙ ap₂ (λ (x r : ℕ). mask x ∷ masks_of r) (sym t.is_lowest) (sym t.is_rest))
 
 -- ---- a row of a sound graph
 
@@ -142,13 +146,15 @@ from_start g =
     let e : g.n ≡ g.n - 0 = omega arith in
     ap (λ (d : ℕ). gather d 0 (edges_above g)) e
 
--- x is the set that the code computes
-module _ (g : SignedGraph) (s : Sound g) (p : ℕ) (h : p < g.n) (x : ℕ) (is : x ≡ above g p) where
-  pub bytes_row : entry_bytes (edges_from g p) ≡ entry_bytes (edges_to (get_or g.positive p 0) x p) ++ entry_bytes (edges_from g (p + 1))
-  bytes_row =
-      ap entry_bytes (gather_more (edges_above g) g.n p h) ∙ bytes_append (edges_above g p) (edges_from g (p + 1))
-      ∙ ap (λ (es : List Entry). entry_bytes es ++ entry_bytes (edges_from g (p + 1)))
-      (sym (edges_above_law g s p h) ∙ ap (λ (y : ℕ). edges_to (get_or g.positive p 0) y p) (sym is))
+-- `of` has the partners of p, and x those of them above p
+pub bytes_row : (g : SignedGraph) → Sound g → (p : ℕ) → p < g.n → {of : Partners} {x : ℕ}
+    → of ≡ record { positive = positives g p; negative = negatives g p } → x ≡ members_above of.positive of.negative p
+    → entry_bytes (edges_from g p) ≡ entry_bytes (edges_to of.positive x p) ++ entry_bytes (edges_from g (p + 1))
+bytes_row g s p h {of} {x} o is =
+    let same : x ≡ above g p = is ∙ ap (λ (y : Partners). members_above y.positive y.negative p) o in
+    ap entry_bytes (gather_more (edges_above g) g.n p h) ∙ bytes_append (edges_above g p) (edges_from g (p + 1))
+    ∙ ap (λ (es : List Entry). entry_bytes es ++ entry_bytes (edges_from g (p + 1)))
+    (sym (edges_above_law g s p h) ∙ ap₂ (λ (a y : ℕ). edges_to a y p) (sym (ap (λ (y : Partners). y.positive) o)) (sym same))
 
 pub bytes_end : (g : SignedGraph) (p : ℕ) → g.n ≤ p → entry_bytes (edges_from g p) ≡ []
 unfolding entry_bytes
@@ -176,3 +182,7 @@ module _ (g : SignedGraph) (s : Sound g) where
 
   pub length_canonical : length (canonical g) ≡ 3 + 3 * edge_count g + 2 * size g.masked
   length_canonical = omega (arith, length_form g, edges_listed)
+
+-- of a graph that passes the test of soundness
+pub length_sound : (g : SignedGraph) → sound g ≡ true → length (canonical g) ≡ 3 + 3 * edge_count g + 2 * size g.masked
+length_sound g e = length_canonical g (to_sound g e)

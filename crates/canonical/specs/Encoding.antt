@@ -1,21 +1,19 @@
 -- Encoding (document 01: the writer): its answer, and what it leaves in the buffer. Assumes nothing.
-use Rattle.std.specs.Prelude.{ℕ, not, List, ltb, length}
+use Rattle.std.specs.Prelude.{ℕ, not, List, ltb, length, Result, Ok, Err}
 use Rattle.vertex_set.specs.Alternatives.{provided, ◌or_else◌}
 use Rattle.vertex_set.specs.Buffers.{overwritten}
 use Rattle.signed_graph.specs.declared.SignedGraph.{SignedGraph}
+use Rattle.signed_graph.specs.declared.Refusal.{Refusal}
 use Rattle.signed_graph.specs.declared.Refusal.TheVariants.{Unsound, BufferTooShort}
 use Rattle.signed_graph.specs.Soundness.{sound}
-use Rattle.signed_graph.specs.Calls.{refusal_of}
-use Rattle.canonical.specs.declared.Encoded.{Encoded}
-use Rattle.canonical.specs.declared.Encoded.TheVariants.{Written, Refused}
 use Rattle.canonical.specs.Canonical.{canonical}
 
 -- the answer, where the buffer has room for so many bytes
-unfoldable pub encoded : SignedGraph → ℕ → Encoded
+unfoldable pub encoded : SignedGraph → ℕ → Result ℕ Refusal
 encoded g room =
-    provided (not (sound g)) (Refused Unsound)
-    or_else provided (ltb room (length (canonical g))) (Refused BufferTooShort)
-    or_else Written (length (canonical g))
+    provided (not (sound g)) (Err Unsound)
+    or_else provided (ltb room (length (canonical g))) (Err BufferTooShort)
+    or_else Ok (length (canonical g))
 
 -- the buffer behind the call; a refusal leaves it as it was
 unfoldable pub buffered : SignedGraph → List ℕ → List ℕ
@@ -24,14 +22,10 @@ buffered g out =
     or_else provided (ltb (length out) (length (canonical g))) out
     or_else overwritten (canonical g) out
 
--- document 01's number of each answer, and the length that it gives: 0 where the call is refused
-abbrev pub encoded_number : Encoded → ℕ
-encoded_number (Written k) = 0
-encoded_number (Refused r) = refusal_of r
-
-abbrev pub encoded_length : Encoded → ℕ
-encoded_length (Written k) = k
-encoded_length (Refused r) = 0
+-- the length that an answer gives: 0 where the call is refused
+abbrev pub encoded_length : Result ℕ Refusal → ℕ
+encoded_length (Ok k) = k
+encoded_length (Err r) = 0
 
 -- the number that the call returns: 10 where the graph is not sound, then 13 where the buffer is shorter than the form
 unfoldable pub encoding_number : SignedGraph → ℕ → ℕ

@@ -1,46 +1,18 @@
 // The canonical form of a graph as an edge list: `encode` writes it.
 #![tactic(auto)]
 
-ghost use Rattle.std.specs.Prelude.{◌≡◌, true, [], ◌∷◌, ◌≤◌, ◌<◌, length};
+ghost use Rattle.std.specs.Prelude.{◌≡◌, ◌≤◌, ◌<◌, length};
 ghost use Rattle.vertex_set.specs.Buffers.{overwritten};
 ghost use Rattle.vertex_set.specs.Sets.{mem};
-ghost use Rattle.signed_graph.specs.Soundness.{sound};
 ghost use Rattle.commands.specs.Entries.{command_byte, entry_bytes};
 ghost use Rattle.canonical.specs.Canonical.{ordered_edges, masks_of, canonical};
-ghost use Rattle.canonical.specs.Encoding as encoding;
-ghost use Rattle.canonical.specs.Encoding.{encoded, buffered, encoding_number, encoding_length};
+ghost use Rattle.signed_graph.specs.Calls.{answer_number};
+ghost use Rattle.canonical.specs.Encoding.{encoded, encoded_length, buffered, encoding_number, encoding_length};
 ghost use Rattle.canonical.specs.EdgeRows.{sign_by, edges_to};
 
+use signed_graph::sound::SoundGraph;
 use signed_graph::{Refusal, SignedGraph};
-
-// The length of the canonical form that was written, or why none was.
-#[derive(Clone, Copy)]
-pub enum Encoded {
-    Written(usize),
-    Refused(Refusal),
-}
-
-impl Encoded {
-    // The number of the refusal; 0 where there is none.
-    pub fn number(self) -> u64
-        ensures { result ≡ encoding.encoded_number self }
-    {
-        match self {
-            Encoded::Written(_) => 0,
-            Encoded::Refused(why) => why.number(),
-        }
-    }
-
-    // How many bytes were written.
-    pub fn length(self) -> usize
-        ensures { result ≡ encoding.encoded_length self }
-    {
-        match self {
-            Encoded::Written(k) => k,
-            Encoded::Refused(_) => 0,
-        }
-    }
-}
+use vertex_set::buffer::overwrite;
 
 // The command of an edge to q, which is positive where q is in `positive`.
 fn edge_command(positive: u64, q: usize) -> u8
@@ -53,49 +25,36 @@ fn edge_command(positive: u64, q: usize) -> u8
     }
 }
 
-// Writes a command and its operands.
-fn put_command(command: u8, p: usize, q: usize, out: &mut [u8])
-    requires { (p < 64) × (q < 64) × (3 ≤ length out.old) }
-    ensures { out.new ≡ overwritten (command ∷ p ∷ q ∷ []) out.old }
-{
-    out[0] = command;
-    out[1] = p as u8;
-    out[2] = q as u8;
-}
-
 // Writes the edges from p to the members of s, and returns how many bytes they take.
+// kept: a vertex is an index of 64 rows; a type round it would be made and taken apart again at each row.
 fn put_edges(positive: u64, s: u64, p: usize, out: &mut [u8]) -> usize
     requires { (p < 64) × (length (entry_bytes (edges_to positive s p)) ≤ length out.old) }
     ensures length { result ≡ length (entry_bytes (edges_to positive s p)) }
     ensures bytes { out.new ≡ overwritten (entry_bytes (edges_to positive s p)) out.old }
 {
-    let mut left = s;
+    // kept: `at` is returned; pieces of three bytes beside the members would not tell where the last one ends.
     let mut at: usize = 0;
-    while left != 0 {
-        let q = vertex_set::lowest(left);
+    for q in vertex_set::members(s) {
         let command = edge_command(positive, q);
-        put_command(command, p, q, &mut out[at..]);
+        overwrite(&[command, p as u8, q as u8], &mut out[at..]);
         at += 3;
-        left = left & (left - 1);
     }
     at
 }
 
-// Writes the edges of a sound graph, and returns how many bytes they take.
-fn put_rows(g: SignedGraph, out: &mut [u8]) -> usize
-    requires { (sound g ≡ true) × (length (entry_bytes (ordered_edges g)) ≤ length out.old) }
-    ensures length { result ≡ length (entry_bytes (ordered_edges g)) }
-    ensures bytes { out.new ≡ overwritten (entry_bytes (ordered_edges g)) out.old }
+// Writes the edges of a graph, and returns how many bytes they take.
+// kept: `at` is returned, as in put_edges.
+fn put_rows(g: SoundGraph, out: &mut [u8]) -> usize
+    requires { length (entry_bytes (ordered_edges g.graph.now)) ≤ length out.old }
+    ensures length { result ≡ length (entry_bytes (ordered_edges g.entry.graph.now)) }
+    ensures bytes { out.new ≡ overwritten (entry_bytes (ordered_edges g.entry.graph.now)) out.old }
 {
-    let n = g.n as usize;
     let mut at: usize = 0;
-    let mut p: usize = 0;
-    while p < n {
-        let positive = g.positive[p];
-        let above = signed_graph::members_above(positive, g.negative[p], p);
-        let written = put_edges(positive, above, p, &mut out[at..]);
+    for p in 0..g.graph.n as usize {
+        let partners = g.graph.partners(p);
+        let above = signed_graph::members_above(partners.positive, partners.negative, p);
+        let written = put_edges(partners.positive, above, p, &mut out[at..]);
         at += written;
-        p += 1;
     }
     at
 }
@@ -106,47 +65,43 @@ fn put_masks(masked: u64, out: &mut [u8]) -> usize
     ensures length { result ≡ length (entry_bytes (masks_of masked)) }
     ensures bytes { out.new ≡ overwritten (entry_bytes (masks_of masked)) out.old }
 {
-    let mut left = masked;
+    // kept: a twin of put_edges, but for the bytes; a closure that gives them needs more clauses than this has lines.
     let mut at: usize = 0;
-    while left != 0 {
-        let p = vertex_set::lowest(left);
-        out[at] = 0x23;
-        out[at + 1] = p as u8;
+    for p in vertex_set::members(masked) {
+        overwrite(&[0x23, p as u8], &mut out[at..]);
         at += 2;
-        left = left & (left - 1);
     }
     at
 }
 
-// Writes the canonical form of a sound graph.
-fn put_canonical(g: SignedGraph, out: &mut [u8])
-    requires { (sound g ≡ true) × (length (canonical g) ≤ length out.old) }
-    ensures { out.new ≡ overwritten (canonical g) out.old }
+// Writes the canonical form of a graph.
+fn put_canonical(g: SoundGraph, out: &mut [u8])
+    requires { length (canonical g.graph.now) ≤ length out.old }
+    ensures { out.new ≡ overwritten (canonical g.entry.graph.now) out.old }
 {
     out[0] = 0x10;
-    out[1] = g.n as u8;
+    out[1] = g.graph.n as u8;
     let edges = put_rows(g, &mut out[2..]);
     let behind = 2 + edges;
-    let masks = put_masks(g.masked, &mut out[behind..]);
+    let masks = put_masks(g.graph.masked, &mut out[behind..]);
     let close = behind + masks;
     out[close] = 0xff;
 }
 
-// Writes the canonical form of a graph, if the graph is sound and the buffer has room for it.
-pub fn encode(g: SignedGraph, out: &mut [u8]) -> Encoded
+// Writes the canonical form of a graph, if the graph is sound and the buffer has room for it: how many bytes it takes.
+#[tactic(auto, unfolding(crate::specs::Encoding::encoded, crate::specs::Encoding::buffered, crate::specs::Encoding::encoding_number, crate::specs::Encoding::encoding_length), using(crate::proofs::Rows::length_sound, signed_graph::proofs::EdgeCounts::edges_most, vertex_set::proofs::SizeBounds::size_64, std::proofs::lemmas::Bool::Decides::nat_tests))]
+pub fn encode(g: SignedGraph, out: &mut [u8]) -> Result<usize, Refusal>
     ensures answer { result ≡ encoded g (length out.old) }
-    ensures number { encoding.encoded_number result ≡ encoding_number g (length out.old) }
-    ensures size { encoding.encoded_length result ≡ encoding_length g (length out.old) }
+    ensures number { answer_number result ≡ encoding_number g (length out.old) }
+    ensures size { encoded_length result ≡ encoding_length g (length out.old) }
     ensures buffer { out.new ≡ buffered g out.old }
 {
-    if !signed_graph::is_sound(g) {
-        return Encoded::Refused(Refusal::Unsound);
-    }
+    let sound = SoundGraph::check_graph(&g)?;
     let masks = vertex_set::size(g.masked) as usize;
     let need = 3 + 3 * signed_graph::count_edges(g) + 2 * masks;
     if out.len() < need {
-        return Encoded::Refused(Refusal::BufferTooShort);
+        return Err(Refusal::BufferTooShort);
     }
-    put_canonical(g, out);
-    Encoded::Written(need)
+    put_canonical(sound, out);
+    Ok(need)
 }

@@ -12,7 +12,7 @@ use Rattle.signed_graph.specs.Samples.{triangle, chain, sample_a, masked_a}
 use Rattle.signed_graph.specs.Soundness.{sound, has_all_rows, loopless, symmetric, confined, unambiguous, masks_below}
 use Rattle.clique.specs.declared.Verdict.{Verdict}
 use Rattle.clique.specs.declared.Verdict.TheVariants.{Empty, OutOfRange, Alone, Masked, MissingEdge, Unbalanced, TooSmall, Extensible, Group}
-use Rattle.clique.specs.declared.Classified.TheVariants.{As}
+use Rattle.std.specs.Prelude.{Ok}
 use Rattle.clique.specs.Balance.{balanced, all_agree, left, right}
 use Rattle.clique.specs.Groups.{floor, extension, is_group, groups}
 use Rattle.vertex_set.specs.Order.{choices, subsets}
@@ -117,7 +117,7 @@ cases_verdicts =
 
 -- their numbers and values
 abbrev values_of : Verdict → List ℕ
-values_of v = classified_values (As v)
+values_of v = classified_values (Ok v)
 
 pub record Values : Type 0 where
   pub empty : values_of (verdict sample_a 1 (set [])) ≡ 1 ∷ []

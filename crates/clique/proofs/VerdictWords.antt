@@ -23,7 +23,7 @@ use Rattle.signed_graph.specs.Thresholds.{Threshold}
 use Rattle.signed_graph.proofs.Soundness.{Sound}
 use Rattle.clique.specs.declared.Verdict.{Verdict}
 use Rattle.clique.specs.declared.Verdict.TheVariants as Is
-use Rattle.clique.specs.declared.Classified.TheVariants.{As, Refused}
+use Rattle.std.specs.Prelude.{Result, Ok}
 use Rattle.clique.specs.Balance.{Balanced, balanced, left, right}
 use Rattle.clique.specs.Groups.{floor, Group, extension}
 use Rattle.clique.specs.Stages.{from_alone, from_masks, from_edges, from_triples, from_sides, from_extension}
@@ -344,15 +344,11 @@ module _ (g : SignedGraph) (so : Sound g) (s : ℕ) (s64 : s < 2 ^ 64) (k : Thre
   )
 
   -- the answer of a call that is accepted
-  pub as_first : (x : Verdict) → x ≡ verdict g k s → (v : Verdict) → As x ≡ As v → FirstVerdict g k s v
+  pub as_first : (x : Verdict) → x ≡ verdict g k s → (v : Verdict) → ◌≡◌ {A = Result Verdict Refusal} (Ok x) (Ok v) → FirstVerdict g k s v
   as_first x e v h = let same : verdict g k s ≡ v = cc in subst (FirstVerdict g k s) same verdict_first
 
   pub verdict_group : (x y : ℕ) → verdict g k s ≡ Is.Group x y → Group g k s
   verdict_group x y e = (subst (Applies g k s) e verdict_applies).0
-
--- a refused call has no verdict
-pub no_verdict : {A : Type 0} (why : Refusal) (v : Verdict) → Refused why ≡ As v → A
-no_verdict why v e = absurd (let z : ◌≡◌ {A = ℕ} 0 1 = cc in omega arith)
 
 -- ---- a complete set has three vertices with one or three negative edges exactly where it is not balanced
 

@@ -3,3 +3,4 @@ pub mod Entries
 pub mod Tables
 pub mod Graphs
 pub mod Steps
+pub mod ListKinds

@@ -7,28 +7,33 @@ use mathlib.Core.List.{List, [], ◌∷◌, ◌++◌, append_assoc, append-nil}
 use lib.ListN.{length, drop, length-append, length-drop}
 use lib.Seq.{drop-drop}
 use Rattle.commands.specs.declared.Fault.{Fault}
-use Rattle.commands.specs.declared.Decoded.{Decoded}
 
 -- ---- the operands of a command are passed over
 
--- `from` reads on behind some commands, with so many operands to be passed over, from a place on
-module _ {E : Type 0} (from : List E → ℕ → List ℕ → ℕ → Decoded)
-    (skips : (es : List E) (k x : ℕ) (rest : List ℕ) (at : ℕ) → from es (suc k) (x ∷ rest) at ≡ from es k rest (suc at)) where
-  passed_over_law : (es : List E) (k : ℕ) (part : List ℕ) (at : ℕ) → k ≤ length part → from es k part at ≡ from es 0 (drop k part) (at + k)
-  passed_over_law es zero part at h = ap (from es 0 part) (sym (add-zero at))
-  passed_over_law es (suc k) [] at h = absurd (omega arith)
-  passed_over_law es (suc k) (x ∷ part) at h =
+-- `from` reads on where it stands so far, with so many operands to be passed over, from a place on
+module _ {S D : Type 0} (from : S → ℕ → List ℕ → ℕ → D) (skips : (s : S) (k x : ℕ) (rest : List ℕ) (at : ℕ) → from s (suc k) (x ∷ rest) at ≡ from s k rest (suc at)) where
+  pub passed_over_law : (s : S) (k : ℕ) (part : List ℕ) (at : ℕ) → k ≤ length part → from s k part at ≡ from s 0 (drop k part) (at + k)
+  passed_over_law s zero part at h = ap (from s 0 part) (sym (add-zero at))
+  passed_over_law s (suc k) [] at h = absurd (omega arith)
+  passed_over_law s (suc k) (x ∷ part) at h =
       let e : suc at + k ≡ at + suc k = omega arith in
-      skips es k x part at ∙ passed_over_law es k part (suc at) (omega arith) ∙ ap (from es 0 (drop k part)) e
+      skips s k x part at ∙ passed_over_law s k part (suc at) (omega arith) ∙ ap (from s 0 (drop k part)) e
 
   -- behind the command byte at the front of a part
-  pub behind_operands : (es : List E) (k : ℕ) (part : List ℕ) (at : ℕ) → suc k ≤ length part
-      → from es k (drop 1 part) (suc at) ≡ from es 0 (drop (suc k) part) (at + suc k)
-  behind_operands es k part at room =
+  pub behind_operands : (s : S) (k : ℕ) (part : List ℕ) (at : ℕ) → suc k ≤ length part
+      → from s k (drop 1 part) (suc at) ≡ from s 0 (drop (suc k) part) (at + suc k)
+  behind_operands s k part at room =
       let place : suc at + k ≡ at + suc k = omega arith in
       let count : 1 + k ≡ suc k = omega arith in
-      passed_over_law es k (drop 1 part) (suc at) (omega (arith, length-drop 1 part))
-      ∙ ap₂ (from es 0) (drop-drop k 1 part ∙ ap (λ (j : ℕ). drop j part) count) place
+      passed_over_law s k (drop 1 part) (suc at) (omega (arith, length-drop 1 part))
+      ∙ ap₂ (from s 0) (drop-drop k 1 part ∙ ap (λ (j : ℕ). drop j part) count) place
+
+-- two readers that come to the same behind the operands come to the same
+module _ {S T D : Type 0} (from : S → ℕ → List ℕ → ℕ → D) (skips : (s : S) (k x : ℕ) (rest : List ℕ) (at : ℕ) → from s (suc k) (x ∷ rest) at ≡ from s k rest (suc at))
+    (other : T → ℕ → List ℕ → ℕ → D) (passes : (t : T) (k x : ℕ) (rest : List ℕ) (at : ℕ) → other t (suc k) (x ∷ rest) at ≡ other t k rest (suc at)) where
+  pub past_alike : (s : S) (t : T) (k : ℕ) (part : List ℕ) (at : ℕ) → k ≤ length part → from s 0 (drop k part) (at + k) ≡ other t 0 (drop k part) (at + k)
+      → from s k part at ≡ other t k part at
+  past_alike s t k part at h e = passed_over_law from skips s k part at h ∙ e ∙ sym (passed_over_law other passes t k part at h)
 
 -- ---- many commands
 
@@ -61,7 +66,7 @@ module _ {E : Type 0} (w : Written E) where
   -- commands may stand behind others where `Ok` says so
   module _ (Ok : List E → Type 0) where
     -- reading goes past commands that it goes past one by one
-    pub past : (from : List E → List ℕ → ℕ → Decoded)
+    pub past : {D : Type 0} (from : List E → List ℕ → ℕ → D)
         → ((es : List E) (e : E) (more : List E) (l : List ℕ) (at : ℕ) → Ok (es ++ e ∷ more)
         → from es (bytes e ++ l) at ≡ from (es ++ e ∷ []) l (at + suc (operands e)))
         → (more es : List E) (part : List ℕ) (at : ℕ) → Ok (es ++ more)

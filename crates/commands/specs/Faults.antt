@@ -1,9 +1,9 @@
 -- Why a command is refused: document 01's table, row by row, and the number and place of each refusal. Assumes nothing.
-use Rattle.std.specs.Prelude.{ℕ, suc, ◌≤◌, ◌<◌, ◌≡◌, ◌≢◌, ◌⊎◌, true, List, length, get_or}
+use Rattle.std.specs.Prelude.{ℕ, suc, ◌≤◌, ◌<◌, ◌≡◌, ◌≢◌, ◌⊎◌, true, List, length, get_or, Result, Ok, Err}
+use Rattle.signed_graph.specs.declared.SignedGraph.{SignedGraph}
+use Rattle.signed_graph.specs.Graphs.{edgeless}
 use Rattle.commands.specs.declared.Fault.{Fault}
 use Rattle.commands.specs.declared.Fault.TheVariants.{NoOpening, TooManyVertices, UnknownCommand, Truncated, OutOfRange, Loop, Repeated, MaskedTwice, Unclosed, TrailingBytes}
-use Rattle.commands.specs.declared.Outcome.{Outcome}
-use Rattle.commands.specs.declared.Outcome.TheVariants.{Accepted, Refused}
 use Rattle.commands.specs.Entries.{Earlier, behind_byte, first_operand, second_operand}
 
 -- ---- the rows
@@ -81,10 +81,15 @@ fault_place (Unclosed at) = at
 fault_place (TrailingBytes at) = at
 
 -- those of an answer: 0 and no place, which is 0 too, where the list is accepted
-abbrev pub outcome_number : Outcome → ℕ
-outcome_number Accepted = 0
-outcome_number (Refused f) = fault_number f
+abbrev pub outcome_number : {X : Type 0} → Result X Fault → ℕ
+outcome_number (Ok x) = 0
+outcome_number (Err f) = fault_number f
 
-abbrev pub outcome_place : Outcome → ℕ
-outcome_place Accepted = 0
-outcome_place (Refused f) = fault_place f
+abbrev pub outcome_place : {X : Type 0} → Result X Fault → ℕ
+outcome_place (Ok x) = 0
+outcome_place (Err f) = fault_place f
+
+-- the graph that an answer gives: that of no vertices where the list is refused
+abbrev pub graph_given : Result SignedGraph Fault → SignedGraph
+graph_given (Ok g) = g
+graph_given (Err f) = edgeless 0

@@ -1,21 +1,23 @@
-// One command of a list that gives a graph: what it does, and why it is refused.
+// Lists of commands that give a graph: what a command does, why a list is refused, and the reader of both kinds.
 #![tactic(auto)]
 
-ghost use Rattle.std.specs.Prelude.{◌≡◌, ◌≤◌, ◌<◌};
+ghost use Rattle.std.specs.Prelude.{◌≡◌, ◌∷◌, ◌+◌, ◌^◌, ◌≤◌, ◌<◌, length, drop};
+ghost use Rattle.signed_graph.specs.Graphs.{edgeless};
 ghost use Rattle.commands.specs.Faults as faults;
-ghost use Rattle.commands.specs.Steps.{refused, edge_step, mask_step};
-ghost use Rattle.commands.specs.Tables.{partners, masked_in, put_vertex, put_edge};
+ghost use Rattle.commands.specs.Steps.{edge_step, mask_step, command_step};
+ghost use Rattle.commands.specs.Tables.{put_vertex, put_edge};
+ghost use Rattle.commands.specs.ListKinds.{Kind, read_from, read_list};
 
-use signed_graph::SignedGraph;
+use signed_graph::{MOST_VERTICES, SignedGraph};
 
-#[derive(Clone, Copy)]
+#[derive(Clone, Copy, Debug, PartialEq, Eq)]
 pub enum Sign {
     Positive,
     Negative,
 }
 
 // Why a list is refused, with the place of the byte where that is not the first.
-#[derive(Clone, Copy)]
+#[derive(Clone, Copy, Debug, PartialEq, Eq)]
 pub enum Fault {
     // It begins with neither 10 nor 11.
     NoOpening,
@@ -38,26 +40,12 @@ pub enum Fault {
     TrailingBytes(usize),
 }
 
-#[derive(Clone, Copy)]
-pub enum Outcome {
-    Accepted,
-    Refused(Fault),
-}
-
-// The graph of an accepted edge list; the graph of no vertices where it is refused.
-#[derive(Clone, Copy)]
-pub struct Decoded {
-    pub outcome: Outcome,
-    pub graph: SignedGraph,
-}
-
-// What a command does.
-#[derive(Clone, Copy)]
+// What a command does that has no fault.
+#[derive(Clone, Copy, Debug, PartialEq, Eq)]
 pub enum Step {
     Edge(Sign, usize, usize),
     Mask(usize),
     Close,
-    Refuse(Fault),
 }
 
 impl Fault {
@@ -65,6 +53,7 @@ impl Fault {
     pub fn number(self) -> u64
         ensures { result ≡ faults.fault_number self }
     {
+        // kept: the numbers are the paper's, and C's.
         match self {
             Fault::NoOpening => 1,
             Fault::TooManyVertices => 2,
@@ -84,54 +73,55 @@ impl Fault {
         ensures { result ≡ faults.fault_place self }
     {
         match self {
-            Fault::NoOpening => 0,
-            Fault::TooManyVertices => 0,
-            Fault::UnknownCommand(at) => at,
-            Fault::Truncated(at) => at,
-            Fault::OutOfRange(at) => at,
-            Fault::Loop(at) => at,
-            Fault::Repeated(at) => at,
-            Fault::MaskedTwice(at) => at,
-            Fault::Unclosed(at) => at,
-            Fault::TrailingBytes(at) => at,
+            Fault::NoOpening | Fault::TooManyVertices => 0,
+            Fault::UnknownCommand(at)
+            | Fault::Truncated(at)
+            | Fault::OutOfRange(at)
+            | Fault::Loop(at)
+            | Fault::Repeated(at)
+            | Fault::MaskedTwice(at)
+            | Fault::Unclosed(at)
+            | Fault::TrailingBytes(at) => at,
         }
     }
 }
 
-impl Outcome {
-    // The number of the answer: 0 where the list is accepted.
-    pub fn number(self) -> u64
-        ensures { result ≡ faults.outcome_number self }
-    {
-        match self {
-            Outcome::Accepted => 0,
-            Outcome::Refused(fault) => fault.number(),
-        }
-    }
-
-    // The place of the fault; 0 where there is none.
-    pub fn place(self) -> usize
-        ensures { result ≡ faults.outcome_place self }
-    {
-        match self {
-            Outcome::Accepted => 0,
-            Outcome::Refused(fault) => fault.place(),
-        }
-    }
-}
-
-// The answer to a list with a fault.
-pub fn refuse(f: Fault) -> Decoded
-    ensures { result ≡ refused f }
+// The number of an answer: 0 where the list is accepted.
+// kept: apart from `answer_number`, as that says.
+pub fn outcome_number<T>(outcome: &Result<T, Fault>) -> u64
+    ensures { result ≡ faults.outcome_number outcome.now }
 {
-    let graph = SignedGraph::new(0);
-    Decoded {
-        outcome: Outcome::Refused(f),
-        graph,
+    match outcome {
+        Ok(_) => 0,
+        Err(fault) => fault.number(),
+    }
+}
+
+// The place of the fault in an answer; 0 where there is none.
+// kept: a Result cannot become a number by From, and C and the program want one.
+pub fn outcome_place<T>(outcome: &Result<T, Fault>) -> usize
+    ensures { result ≡ faults.outcome_place outcome.now }
+{
+    match outcome {
+        Ok(_) => 0,
+        Err(fault) => fault.place(),
+    }
+}
+
+// The graph of an accepted list; the graph of no vertices where it is refused.
+// kept: C gets this graph on a refusal.
+pub fn graph_given(outcome: &Result<SignedGraph, Fault>) -> SignedGraph
+    ensures { result ≡ faults.graph_given outcome.now }
+{
+    match outcome {
+        Ok(graph) => *graph,
+        Err(_) => SignedGraph::new(0),
     }
 }
 
 // The set s with the vertex q, or without it.
+// kept: present as in put_edge; a vertex is an index of 64 rows; a type round it would be made and taken apart again at each row.
+#[tactic(auto, using(vertex_set::proofs::Collections::single_pow))]
 fn put_vertex(present: bool, q: usize, s: u64) -> u64
     requires { q < 64 }
     ensures { result ≡ put_vertex present q s }
@@ -143,6 +133,8 @@ fn put_vertex(present: bool, q: usize, s: u64) -> u64
 }
 
 // Makes a and b partners in a table, or no partners.
+// kept: present is what the table is to say; an amendment list knows it only from a command's byte.
+#[tactic(auto, using(crate::proofs::Tables::stored_is))]
 pub fn put_edge(present: bool, rows: &mut [u64; 64], a: usize, b: usize)
     requires { (a < 64) × (b < 64) }
     ensures { rows.new ≡ put_edge present rows.old a b }
@@ -153,51 +145,139 @@ pub fn put_edge(present: bool, rows: &mut [u64; 64], a: usize, b: usize)
     rows[b] = y;
 }
 
-// The edge that the command at `at` gives: its operands come first in the part behind the command byte.
-pub fn edge_at<'a>(
-    behind: &[u8],
-    at: usize,
-    n: usize,
-    sign: Sign,
-    positive: &'a [u64; 64],
-    negative: &'a [u64; 64],
-) -> Step
-    requires { n ≤ 64 }
-    ensures { result ≡ edge_step (partners positive.now negative.now) n sign behind.now at }
-{
-    if behind.len() < 2 {
-        return Step::Refuse(Fault::Truncated(at));
-    }
-    let a = behind[0] as usize;
-    let b = behind[1] as usize;
-    if n <= a {
-        return Step::Refuse(Fault::OutOfRange(at));
-    }
-    if n <= b {
-        return Step::Refuse(Fault::OutOfRange(at));
-    }
-    if a == b {
-        return Step::Refuse(Fault::Loop(at));
-    }
-    if vertex_set::contains(positive[a] | negative[a], b) {
-        return Step::Refuse(Fault::Repeated(at));
-    }
-    Step::Edge(sign, a, b)
+// A kind of list: as which byte a command is checked, what was given before it, and what its edge changes.
+pub trait ListKind {
+    ghost kind: { Kind };
+
+    fn checked_as(command: u8) -> u8
+        ensures { result ≡ kind.checked_as command };
+
+    // Whether an edge that counts was given between a and b.
+    fn joins(graph: &SignedGraph, a: usize, b: usize) -> bool
+        requires { (a < 64) × (b < 64) }
+        ensures { result ≡ (kind.earlier graph.now).joined a b };
+
+    // Whether a mask of a was given that counts.
+    fn masks(graph: &SignedGraph, a: usize) -> bool
+        ensures { result ≡ (kind.earlier graph.now).masked a };
+
+    // Has the graph say of the edge what the command says.
+    fn put_edge(graph: &mut SignedGraph, command: u8, sign: Sign, a: usize, b: usize)
+        requires { (a < 64) × (b < 64) }
+        ensures { graph.new ≡ kind.with_edge command sign a b graph.old };
 }
 
-// The vertex that the command at `at` masks: its operand comes first in the part behind the command byte.
-pub fn mask_at(behind: &[u8], at: usize, n: usize, masked: u64) -> Step
-    ensures { result ≡ mask_step (masked_in masked) n behind.now at }
+// A command of a list of n vertices: the byte as which it is checked, the part of the list behind its own, and its place.
+#[derive(Clone, Copy)]
+struct Command<'a> {
+    checked: u8,
+    behind: &'a [u8],
+    at: usize,
+    n: usize,
+    ghost small: { n ≤ 64 },
+    ghost within: { at + length behind.now < 2 ^ 64 },
+}
+
+impl Command<'_> {
+    // The edge that it gives.
+    #[tactic(auto, unfolding(crate::specs::Steps::edge_step), using(std::proofs::lemmas::Bool::Decides::nat_tests))]
+    fn edge<K: ListKind>(&self, sign: Sign, graph: &SignedGraph) -> Result<Step, Fault>
+        ensures { result ≡ edge_step (K.kind.earlier graph.now).joined self.now.n sign self.now.behind.now self.now.at }
+    {
+        let [a, b, ..] = self.behind else {
+            return Err(Fault::Truncated(self.at));
+        };
+        let a = *a as usize;
+        let b = *b as usize;
+        if self.n <= a || self.n <= b {
+            return Err(Fault::OutOfRange(self.at));
+        }
+        if a == b {
+            return Err(Fault::Loop(self.at));
+        }
+        if K::joins(graph, a, b) {
+            return Err(Fault::Repeated(self.at));
+        }
+        Ok(Step::Edge(sign, a, b))
+    }
+
+    // The vertex that it masks.
+    #[tactic(auto, unfolding(crate::specs::Steps::mask_step), using(std::proofs::lemmas::Bool::Decides::nat_tests))]
+    fn mask<K: ListKind>(&self, graph: &SignedGraph) -> Result<Step, Fault>
+        ensures { result ≡ mask_step (K.kind.earlier graph.now).masked self.now.n self.now.behind.now self.now.at }
+    {
+        let [a, ..] = self.behind else {
+            return Err(Fault::Truncated(self.at));
+        };
+        let a = *a as usize;
+        if self.n <= a {
+            return Err(Fault::OutOfRange(self.at));
+        }
+        if K::masks(graph, a) {
+            return Err(Fault::MaskedTwice(self.at));
+        }
+        Ok(Step::Mask(a))
+    }
+
+    // What it does.
+    #[tactic(auto, unfolding(crate::specs::Steps::command_step, crate::specs::Steps::step_by, crate::specs::Steps::command_of), using(std::proofs::lemmas::Bool::Decides::nat_tests))]
+    fn step<K: ListKind>(&self, graph: &SignedGraph) -> Result<Step, Fault>
+        ensures { result ≡ command_step (K.kind.earlier graph.now) self.now.n (self.now.checked ∷ self.now.behind.now) self.now.at }
+    {
+        match self.checked {
+            0x21 => self.edge::<K>(Sign::Positive, graph),
+            0x22 => self.edge::<K>(Sign::Negative, graph),
+            0x23 => self.mask::<K>(graph),
+            0xff if self.behind.is_empty() => Ok(Step::Close),
+            0xff => Err(Fault::TrailingBytes(self.at + 1)),
+            _ => Err(Fault::UnknownCommand(self.at)),
+        }
+    }
+}
+
+// Decodes the commands behind the opening of a list of n vertices.
+fn read_commands<K: ListKind>(bytes: &[u8], n: usize) -> Result<SignedGraph, Fault>
+    requires { (n ≤ 64) × (2 ≤ length bytes.now) }
+    ensures { result ≡ read_from K.kind n (edgeless n) 0 (drop 2 bytes.now) 2 }
 {
-    if behind.len() < 1 {
-        return Step::Refuse(Fault::Truncated(at));
+    let mut graph = SignedGraph::new(n as u64);
+    let mut at: usize = 2;
+    // kept: a fault has the place, and it moves by the length of a command; over the bytes left it would be counted back from them.
+    while at < bytes.len() {
+        let byte = bytes[at];
+        let command = Command {
+            checked: K::checked_as(byte),
+            behind: &bytes[at + 1..],
+            at,
+            n,
+        };
+        let step = command.step::<K>(&graph)?;
+        match step {
+            Step::Edge(sign, a, b) => {
+                K::put_edge(&mut graph, byte, sign, a, b);
+                at += 3;
+            }
+            Step::Mask(a) => {
+                graph.masked |= vertex_set::single(a);
+                at += 2;
+            }
+            Step::Close => return Ok(graph),
+        }
     }
-    let a = behind[0] as usize;
-    if n <= a {
-        return Step::Refuse(Fault::OutOfRange(at));
+    Err(Fault::Unclosed(at))
+}
+
+// Decodes a list of this kind, whatever its first byte is.
+#[tactic(auto, unfolding(crate::specs::ListKinds::read_list))]
+pub fn read_list<K: ListKind>(bytes: &[u8]) -> Result<SignedGraph, Fault>
+    ensures { result ≡ read_list K.kind bytes.now }
+{
+    let [_, n, ..] = bytes else {
+        return Err(Fault::Truncated(0));
+    };
+    let n = *n as usize;
+    if MOST_VERTICES < n as u64 {
+        return Err(Fault::TooManyVertices);
     }
-    if vertex_set::contains(masked, a) {
-        return Step::Refuse(Fault::MaskedTwice(at));
-    }
-    Step::Mask(a)
+    read_commands::<K>(bytes, n)
 }

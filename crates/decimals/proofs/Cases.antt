@@ -1,7 +1,7 @@
 -- Numbers at the ends of their range, byte for byte, which compute. Assumes nothing.
 use mathlib.Core.Path.{◌≡◌, refl}
 use mathlib.Core.List.{[], ◌∷◌}
-use Rattle.decimals.specs.Decimals.{digits, decimal}
+use Rattle.std.specs.Fmt.{digits, decimal}
 
 pub record Numbers : Type 0 where
   -- `0`, `9`, `10`, `63`, and the largest number of 64 bits, `18446744073709551615`
@@ -14,5 +14,5 @@ pub record Numbers : Type 0 where
       ∷ 0x30 ∷ 0x39 ∷ 0x35 ∷ 0x35 ∷ 0x31 ∷ 0x36 ∷ 0x31 ∷ 0x35 ∷ []
 
 pub cases_numbers : Numbers
-unfolding digits decimal
+unfolding digits
 cases_numbers = record { number_0 = refl; number_9 = refl; number_10 = refl; number_63 = refl; number_most = refl }

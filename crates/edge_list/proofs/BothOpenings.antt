@@ -6,6 +6,7 @@ use mathlib.Core.Logic.{◌≢◌, inl, inr}
 use mathlib.Core.Bool.{Bool, true, false, ◌&&◌, ◌||◌, or-false, and-true}
 use mathlib.Core.List.{List, [], ◌∷◌, ◌++◌, map}
 use lib.ListN.{get_or, drop}
+use Rattle.std.specs.Prelude.{Ok}
 use Rattle.vertex_set.specs.Lists.{All, any}
 use Rattle.vertex_set.specs.Sets.{collect}
 use Rattle.vertex_set.proofs.Booleans.{clash, cases, refute, fails_right}
@@ -15,11 +16,9 @@ use Rattle.bit_matrix.proofs.Matrices.{table_cong}
 use Rattle.signed_graph.specs.declared.SignedGraph.{SignedGraph}
 use Rattle.commands.specs.declared.Sign.{Sign}
 use Rattle.commands.specs.declared.Sign.TheVariants.{Positive, Negative}
-use Rattle.commands.specs.declared.Decoded.{Decoded}
 use Rattle.commands.specs.declared.Fault.{Fault}
 use Rattle.commands.specs.Entries.{Entry, link, mask, same_sign, joins, given, given_as, masked, proper, graph_of_entries, entry_bytes}
 use Rattle.commands.specs.Faults.{fault_number, outcome_number}
-use Rattle.commands.specs.Steps.{accepted}
 use Rattle.commands.proofs.Entries.{proper_first, proper_rest, as_given, joined_given}
 use Rattle.amendments.specs.Amendments.{EdgeState, present, absent, Amendment, amend_edge, amend_mask, names, masking, state_after, state_from, is_present, amended_as, amended_mask, graph_of_amendments, Permitted, bytes_of_amendment, amendment_bytes, amendment_list}
 use Rattle.amendments.proofs.Amendments.{unnamed}
@@ -28,7 +27,7 @@ use Rattle.edge_list.specs.Faults.{FaultIn, unopened, truncated, crowded, behind
 use Rattle.edge_list.specs.Acceptance.{EdgeListOf, ListOf, edges, amendments}
 use Rattle.edge_list.specs.Decoding.{decoded, decoded_number}
 use Rattle.edge_list.proofs.Openings.{opened_11}
-use Rattle.edge_list.proofs.Answers.{Answer, answer, words_accepted, words_refused, accepted_words}
+use Rattle.edge_list.proofs.Answers.{Answer, answer, words_accepted, words_refused, one_answer, accepted_words}
 
 -- ---- the entries of an edge list as amendments
 
@@ -98,7 +97,7 @@ module _ (n : ℕ) where
 
 -- ---- what is accepted under 10 is accepted under 11, with the same graph
 
-edges_amended : (rest : List ℕ) (g : SignedGraph) → EdgeListOf (0x10 ∷ rest) g → decoded (0x11 ∷ rest) ≡ accepted g
+edges_amended : (rest : List ℕ) (g : SignedGraph) → EdgeListOf (0x10 ∷ rest) g → decoded (0x11 ∷ rest) ≡ Ok g
 edges_amended rest g w =
     let es : List Entry = w.entries in
     let spelled : rest ≡ g.n ∷ (entry_bytes es ++ 0xff ∷ []) = ap (drop 1) w.spelled in
@@ -106,18 +105,18 @@ edges_amended rest g w =
     ∙ ap (λ (l : List ℕ). decoded (0x11 ∷ g.n ∷ (l ++ 0xff ∷ []))) (sym (same_bytes_law es))
     ∙ opened_11 (amendment_list g.n (amendments_of es)) refl
     ∙ amending.list_accepted g.n (amendments_of es) w.small (all_permitted g.n es w.once)
-    ∙ ap accepted (same_graph g.n es w.once ∙ sym w.exactly)
+    ∙ ap Ok (same_graph g.n es w.once ∙ sym w.exactly)
 
-pub either_opening : (rest : List ℕ) (g : SignedGraph) → decoded (0x10 ∷ rest) ≡ accepted g → decoded (0x11 ∷ rest) ≡ accepted g
+pub either_opening : (rest : List ℕ) (g : SignedGraph) → decoded (0x10 ∷ rest) ≡ Ok g → decoded (0x11 ∷ rest) ≡ Ok g
 either_opening rest g e = go (accepted_words (0x10 ∷ rest) g e)
   where
-    go : ListOf (0x10 ∷ rest) g → decoded (0x11 ∷ rest) ≡ accepted g
+    go : ListOf (0x10 ∷ rest) g → decoded (0x11 ∷ rest) ≡ Ok g
     go (edges w) = edges_amended rest g w
     go (amendments w) = absurd (let z : 0x10 ≡ 0x11 = ap (λ (l : List ℕ). get_or l 0 0) w.spelled in omega arith)
 
 -- so where both are, they have one graph
-pub one_graph : (rest : List ℕ) (g h : SignedGraph) → decoded (0x10 ∷ rest) ≡ accepted g → decoded (0x11 ∷ rest) ≡ accepted h → g ≡ h
-one_graph rest g h a b = ap (λ (d : Decoded). d.graph) (sym (either_opening rest g a) ∙ b)
+pub one_graph : (rest : List ℕ) (g h : SignedGraph) → decoded (0x10 ∷ rest) ≡ Ok g → decoded (0x11 ∷ rest) ≡ Ok h → g ≡ h
+one_graph rest g h a b = one_answer (decoded (0x11 ∷ rest)) g h (either_opening rest g a) b
 
 -- ---- a command of an amendment list given again behind itself changes nothing
 
@@ -142,8 +141,8 @@ never_again bytes first = go (answer bytes)
 
     go : Answer bytes → (decoded_number bytes ≢ 7) × (decoded_number bytes ≢ 15)
     go (inl w) =
-        let is : decoded_number bytes ≡ fault_number w.0 = ap (λ (d : Decoded). outcome_number d.outcome) (words_refused bytes w.0 w.1) in
+        let is : decoded_number bytes ≡ fault_number w.0 = ap outcome_number (words_refused bytes w.0 w.1) in
         (λ e. (fault w.0 w.1).0 (sym is ∙ e), λ e. (fault w.0 w.1).1 (sym is ∙ e))
     go (inr w) =
-        let is : decoded_number bytes ≡ 0 = ap (λ (d : Decoded). outcome_number d.outcome) (words_accepted bytes w.0 w.1) in
+        let is : decoded_number bytes ≡ 0 = ap outcome_number (words_accepted bytes w.0 w.1) in
         (λ e. omega arith, λ e. omega arith)

@@ -11,9 +11,8 @@ use Rattle.vertex_set.specs.Sets.{insert}
 use Rattle.vertex_set.proofs.Booleans.{refute}
 use Rattle.vertex_set.proofs.Lists.{all_select}
 use Rattle.signed_graph.specs.declared.SignedGraph.{SignedGraph}
-use Rattle.signed_graph.specs.declared.Check.{Check}
-use Rattle.signed_graph.specs.declared.Check.TheVariants.{Accepted, Refused}
-use Rattle.signed_graph.specs.Calls.{check_of}
+use Rattle.std.specs.Prelude.{Ok, Err}
+use Rattle.signed_graph.specs.Calls.{Check, check_of}
 use Rattle.signed_graph.proofs.Soundness.{Sound}
 use Rattle.signed_graph.specs.Thresholds.{Threshold}
 use Rattle.clique.specs.Groups.{is_group, groups}
@@ -32,7 +31,7 @@ use Rattle.group_pages.specs.Records.{record_width}
 -- ---- fewer than 2 to the 64
 
 module _ {A : Type 0} (f : A → Bool) where
-  select_le : (l : List A) → length (select f l) ≤ length l
+  pub select_le : (l : List A) → length (select f l) ≤ length l
   unfolding select
   select_le [] = omega arith
   select_le (x ∷ l) = go (f x) refl (select_le l)
@@ -110,5 +109,5 @@ module _ (g : SignedGraph) (k : Threshold) (m : Bookmark) (room : ℕ) where
   page_fits page is = subst (λ (p : Page). record_width * p.count ≤ room) (sym is) (go (check_of g k))
     where
       go : (c : Check) → record_width * (page_by item_set record_width c m room ds).count ≤ room
-      go Accepted = omega arith
-      go (Refused why) = omega arith
+      go (Ok x) = omega arith
+      go (Err why) = omega arith

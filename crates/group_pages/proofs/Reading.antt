@@ -2,19 +2,17 @@
 -- Assumes nothing.
 use Prim.Native.Nat.{ℕ, suc, ◌+◌, ◌*◌, ◌/◌, ◌^◌, ◌<◌}
 use native.Mathlib.Omega.{arith}
-use native.Mathlib.Decide.{dec_lt}
 use mathlib.Core.Path.{◌≡◌, refl, sym, ap, ap₂, ◌∙◌, subst}
-use mathlib.Core.List.{List, [], ◌∷◌, ◌++◌}
-use lib.ListN.{length, take, drop, length-append, length-take, length-drop}
+use mathlib.Core.List.{List, [], ◌∷◌, ◌++◌, map}
+use Rattle.std.specs.Simd.{first_chunks}
+use lib.ListN.{length, take, drop, length-append}
 use lib.Seq.{take_at, drop_at, drop-drop}
 use Rattle.vertex_set.specs.Ranges.{gather}
 use Rattle.vertex_set.proofs.Gathering.{gather_shift}
 use Rattle.words.specs.Words.{word_bytes}
 use Rattle.words.proofs.Words.{value_bytes}
 use Rattle.signed_graph.specs.declared.SignedGraph.{SignedGraph}
-use Rattle.signed_graph.specs.declared.Check.{Check}
-use Rattle.signed_graph.specs.declared.Check.TheVariants.{Accepted}
-use Rattle.signed_graph.specs.Calls.{check_of}
+use Rattle.signed_graph.specs.Calls.{Check, passed, check_of}
 use Rattle.signed_graph.specs.Thresholds.{Threshold}
 use Rattle.signed_graph.proofs.Soundness.{to_sound}
 use Rattle.signed_graph.proofs.Calls.{accepted_sound}
@@ -22,10 +20,10 @@ use Rattle.clique.specs.Listing.{Item, item_set, listing}
 use Rattle.clique.proofs.Listing.{listing_sorted}
 use Rattle.pages.specs.declared.Bookmark.{Bookmark}
 use Rattle.pages.specs.Pages.{records, page_by, bytes_by}
-use Rattle.pages.proofs.Pages.{paged}
-use Rattle.group_pages.specs.Records.{record_width, sides_record, record_of, record_at, sides_of}
+use Rattle.pages.proofs.Pages.{length_records, paged}
+use Rattle.group_pages.specs.Records.{record_width, sides_record, record_of, records_in, record_at, sides_of}
 use Rattle.group_pages.specs.Calls.{due_groups, page_of, page_bytes}
-use Rattle.group_pages.proofs.Records.{record_wide, record_there, record_missing}
+use Rattle.group_pages.proofs.Records.{record_wide, record_there}
 
 -- ---- one record
 
@@ -36,20 +34,6 @@ sides_read l r hl hr =
     let left = value_bytes 8 l (omega arith) in
     let right = value_bytes 8 r (omega arith) in
     λ i. record { left = left i; right = right i }
-
--- a record that is not wholly there has no bytes
-pub record_none : (bytes : List ℕ) (i : ℕ) → length (record_at bytes i) < record_width → record_at bytes i ≡ []
-record_none bytes i h = go (dec_lt i (length bytes / record_width))
-  where
-    go : Dec (i < length bytes / record_width) → record_at bytes i ≡ []
-    go (yes l) =
-        absurd (omega (
-          arith,
-          ap length (record_there bytes i l),
-          length-take record_width (drop (record_width * i) bytes),
-          length-drop (record_width * i) bytes,
-        ))
-    go (no l) = record_missing bytes i (omega (arith, l))
 
 -- ---- the records of groups
 
@@ -72,6 +56,20 @@ module _ (x : Item) (rest : List ℕ) where
       ∙ ap (take record_width) (sym (drop-drop (record_width * i) record_width both) ∙ ap (drop (record_width * i)) (drop_at (record_of x) rest record_width (record_wide x)))
       ∙ sym (record_there rest i h)
 
+-- the records of groups read back
+pub records_back : (l : List Item) → records_in (records record_of l) ≡ map record_of l
+unfolding records
+records_back l = ap (λ (k : ℕ). first_chunks record_width k (records record_of l)) (many l) ∙ chunks l
+  where
+    many : (l : List Item) → length (records record_of l) / record_width ≡ length l
+    many l = omega (arith, length_records record_of record_width record_wide l)
+
+    chunks : (l : List Item) → first_chunks record_width (length l) (records record_of l) ≡ map record_of l
+    chunks [] = refl
+    chunks (x ∷ l) =
+        ap₂ (λ (r : List ℕ) (t : List (List ℕ)). r ∷ t) (take_at (record_of x) (records record_of l) record_width (record_wide x))
+        (ap (first_chunks record_width (length l)) (drop_at (record_of x) (records record_of l) record_width (record_wide x)) ∙ chunks l)
+
 -- what a function gives of the records of groups, record by record, joined
 module _ (f : List ℕ → List ℕ) where
   pub over_records : (l : List Item)
@@ -88,7 +86,7 @@ module _ (f : List ℕ → List ℕ) where
 
 -- ---- the records of a page
 
-pub page_records_law : (g : SignedGraph) (k : Threshold) (m : Bookmark) (buffer : List ℕ) → check_of g k ≡ Accepted
+pub page_records_law : (g : SignedGraph) (k : Threshold) (m : Bookmark) (buffer : List ℕ) → check_of g k ≡ passed
     → take (record_width * (page_of g k m (length buffer)).count) (page_bytes g k m buffer)
     ≡ records record_of (take (length buffer / record_width) (due_groups g k m))
 page_records_law g k m buffer a =

@@ -7,9 +7,7 @@ use mathlib.Core.List.{List, ◌++◌, foldl}
 use lib.ListN.{length, take, length-take}
 use Rattle.vertex_set.specs.Lists.{Sorted}
 use Rattle.signed_graph.specs.declared.SignedGraph.{SignedGraph}
-use Rattle.signed_graph.specs.declared.Check.{Check}
-use Rattle.signed_graph.specs.declared.Check.TheVariants.{Accepted}
-use Rattle.signed_graph.specs.Calls.{check_of}
+use Rattle.signed_graph.specs.Calls.{Check, passed, check_of}
 use Rattle.signed_graph.specs.Thresholds.{Threshold}
 use Rattle.signed_graph.proofs.Soundness.{to_sound}
 use Rattle.signed_graph.proofs.Calls.{accepted_sound}
@@ -28,7 +26,7 @@ module _ {B : Type 0} (g : SignedGraph) (k : Threshold) (f : B → Item → B) (
   abbrev pub WalkedGroups : Bookmark → B → Type 0
   WalkedGroups m b = Walked item_set (listing g k) f first m b
 
-module _ (g : SignedGraph) (k : Threshold) (accepted : check_of g k ≡ Accepted) (m : Bookmark) (room : ℕ) (page : Page)
+module _ (g : SignedGraph) (k : Threshold) (accepted : check_of g k ≡ passed) (m : Bookmark) (room : ℕ) (page : Page)
     (is : page ≡ page_of g k m room) where
   abbrev ds : List Item
   ds = due_groups g k m

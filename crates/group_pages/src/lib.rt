@@ -1,84 +1,85 @@
-// Pages of groups: a group's record, a page with one more of them, and a record of a listing, as bytes and as sides.
+// Pages of groups: a group's record, a page with one more of them, and the records of a listing, as bytes and as sides.
 #![tactic(auto)]
 
 ghost use Rattle.std.specs.Prelude.{◌≡◌, [], ◌∷◌, ◌++◌, ◌≤◌, length, drop};
 ghost use Rattle.std.specs.Int.Bits.{bit_or};
 ghost use Rattle.group_pages.specs.Filling.{AddsGroups};
-ghost use Rattle.group_pages.specs.Records.{record_width, sides_record, record_at, sides_at};
+ghost use Rattle.group_pages.specs.Records.{record_width, sides_record, records_in, record_at, sides_of, sides_at};
 
-use pages::{Bookmark, Tally};
+use pages::{Bookmark, End, Page};
+use vertex_set::Sides;
 
 // The bytes of a record.
 pub const RECORD_BYTES: usize = 16;
 
+// The records of a listing; a last one that is not wholly there is none of them.
+pub fn records_in(listing: &[u8]) -> &[[u8; RECORD_BYTES]]
+    ensures { result.now ≡ records_in listing.now }
+{
+    let (records, _) = listing.as_chunks();
+    records
+}
+
+// The sides that a record has.
+// kept: a TryFrom or From is not possible: neither type is of this crate.
+pub fn sides_of(record: &[u8; RECORD_BYTES]) -> Sides
+    ensures { result ≡ sides_of record.now }
+{
+    Sides {
+        left: words::read_word(record),
+        right: words::read_word(&record[8..]),
+    }
+}
+
 // Record i of a listing, as a part of it; an empty part where record i is not wholly there.
+#[tactic(auto, using(crate::proofs::Records::records_read))]
 pub fn record_at(listing: &[u8], i: u64) -> &[u8]
     ensures { result.now ≡ record_at listing.now i }
 {
-    let whole = listing.len() / RECORD_BYTES;
-    if i < whole as u64 {
-        let start = RECORD_BYTES * i as usize;
-        let end = start + RECORD_BYTES;
-        return &listing[start..end];
+    match records_in(listing).get(i as usize) {
+        Some(record) => record,
+        None => &[],
     }
-    let none = 0;
-    &listing[none..none]
-}
-
-// The sides of a group, as its record has them.
-#[derive(Clone, Copy)]
-pub struct RecordSides {
-    pub left: u64,
-    pub right: u64,
 }
 
 // The sides that record i of a listing has; both empty where record i is not wholly there.
-pub fn sides_at(listing: &[u8], i: u64) -> RecordSides
+#[tactic(auto, using(crate::proofs::Records::records_read))]
+pub fn sides_at(listing: &[u8], i: u64) -> Sides
     ensures { result ≡ sides_at listing.now i }
 {
-    let bytes = record_at(listing, i);
-    if bytes.len() < RECORD_BYTES {
-        return RecordSides { left: 0, right: 0 };
+    match records_in(listing).get(i as usize) {
+        Some(record) => sides_of(record),
+        None => Sides { left: 0, right: 0 },
     }
-    let left = words::read_word(bytes);
-    let middle: usize = 8;
-    let right = words::read_word(&bytes[middle..]);
-    RecordSides { left, right }
 }
 
 // Writes the record of a group with these sides.
-fn write_record(left: u64, right: u64, out: &mut [u8])
+#[tactic(auto, unfolding(crate::specs::Records::sides_record, words::specs::Words::word_bytes))]
+fn write_record(sides: Sides, out: &mut [u8])
     requires { record_width ≤ length out.old }
-    ensures { out.new ≡ sides_record left right ++ drop record_width out.old }
+    ensures { out.new ≡ sides_record sides.left sides.right ++ drop record_width out.old }
 {
-    words::write_word(left, out);
-    let at = 8;
-    words::write_word(right, &mut out[at..]);
+    words::write_word(sides.left, out);
+    words::write_word(sides.right, &mut out[8..]);
 }
 
 // A page with one due group more: its record goes behind those already written; where there is no place for it, there is more.
-pub fn put_group(tally: Tally, left: u64, right: u64, out: &mut [u8]) -> Tally
-    ensures { (m : Bookmark) → AddsGroups m (record { vertices = bit_or left right; left = left; right = right } ∷ []) tally
+pub fn put_group(page: Page, sides: Sides, out: &mut [u8]) -> Page
+    ensures { (m : Bookmark)
+        → AddsGroups m (record { vertices = bit_or sides.left sides.right; left = sides.left; right = sides.right } ∷ []) page
         out.old result out.new }
 {
-    let count = tally.count;
-    let room = out.len() / RECORD_BYTES;
-    if count < room {
-        let at = RECORD_BYTES * count;
-        write_record(left, right, &mut out[at..]);
-        let grown = count + 1;
-        Tally {
-            count: grown,
-            last: left | right,
-            more: false,
-            idle: 0,
-        }
-    } else {
-        Tally {
-            count,
-            last: tally.last,
-            more: true,
-            idle: 0,
-        }
+    if out.len() / RECORD_BYTES <= page.count {
+        return Page {
+            end: End::More,
+            ..page
+        };
+    }
+    write_record(sides, &mut out[RECORD_BYTES * page.count..]);
+    Page {
+        count: page.count + 1,
+        next: Bookmark::After(sides.left | sides.right),
+        end: End::Finished,
+        ..page
     }
 }

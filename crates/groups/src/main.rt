@@ -5,138 +5,92 @@
 mod streams;
 mod usage;
 
-ghost use Rattle.std.specs.Prelude.{◌≡◌, length};
-ghost use Rattle.signed_graph.specs.declared.Check.TheVariants.{Accepted};
-ghost use Rattle.signed_graph.specs.Calls.{check_of};
+ghost use Rattle.std.specs.Prelude.{◌≡◌, length, IfOk};
+ghost use Rattle.signed_graph.specs.Calls.{passed, check_of};
 ghost use Rattle.clique.specs.Listing.{listing as listed};
 ghost use Rattle.group_pages.specs.Calls.{page_of};
 ghost use Rattle.output.specs.Output.{closing_for};
 ghost use Rattle.output_text.specs.PageTexts.{page_room};
 ghost use Rattle.groups.specs.Printing.{Counted, DueBehind};
 
-use output::{Answer, Closing};
+use arrayvec::ArrayString;
+use output::Closing;
 use pages::{Bookmark, End, Page};
+use report::Line;
 use requests::Request;
 use signed_graph::SignedGraph;
 use std::env::FillError;
+use std::io;
 use std::io::IsTerminal;
 use std::rt::Env;
 
-// A page, and whether all its lines were printed.
-#[derive(Clone, Copy)]
-struct PrintedPage {
-    page: Page,
-    is_whole: bool,
-}
-
-// How far the groups were printed.
-#[derive(Clone, Copy)]
-enum Printed {
-    // All of them, so many.
-    All(u64),
-    // Up to a write that failed.
-    Cut,
-}
-
-// What is to be printed behind the groups.
-#[derive(Clone, Copy)]
-enum Remaining {
-    Lines(Closing),
-    // Nothing more: a write failed.
-    Nothing,
-}
-
 // Prints the groups of a page.
-fn print_page(rt: HostRuntime, g: SignedGraph, k: u64, from: Bookmark) -> PrintedPage
-    ensures { result.page ≡ page_of g k from page_room }
+fn print_page(rt: HostRuntime, g: SignedGraph, k: u64, from: Bookmark) -> io::Result<Page>
+    ensures { IfOk result (λ page. page ≡ page_of g k from page_room) }
 {
-    let mut text = [0u8; output_text::PAGE_TEXT];
-    let put = output_text::put_page(g, k, from, &mut text);
-    let page = put.page;
-    let end = put.length;
-    let is_whole = streams::print(rt, &mut rt.stdout(), &text[..end]);
-    PrintedPage { page, is_whole }
+    let mut text = ArrayString::new();
+    let page = output_text::put_page(g, k, from, &mut text);
+    streams::write_all(rt, &mut rt.stdout(), text.as_str().as_bytes())?;
+    Ok(page)
 }
 
-// Prints all groups, page by page, up to the first page that cannot be printed.
-fn print_groups(rt: HostRuntime, g: SignedGraph, k: u64) -> Printed
-    requires { check_of g k ≡ Accepted }
+// Prints all groups, page by page, and returns how many there are.
+// kept: the contract of the walk asks that the call passes; so do two functions of `counts`, which no type here serves.
+fn print_groups(rt: HostRuntime, g: SignedGraph, k: u64) -> io::Result<u64>
+    requires { check_of g k ≡ passed }
     ensures { Counted (length (listed g k)) result }
 {
     let mut from = Bookmark::Start;
     let mut count: u64 = 0;
     loop {
-        let printed = print_page(rt, g, k, from);
-        let page = printed.page;
-        if !printed.is_whole {
-            return Printed::Cut;
-        }
+        let page = print_page(rt, g, k, from)?;
         count += page.count as u64;
-        let end = page.end;
-        let End::More = end else {
-            return Printed::All(count);
+        let End::More = page.end else {
+            return Ok(count);
         };
         from = page.next;
     }
 }
 
 // Prints the groups that are due for an input, and returns what is due behind them.
-fn print_due(rt: HostRuntime, input: &[u8]) -> Remaining
+fn print_due(rt: HostRuntime, input: &[u8]) -> io::Result<Result<Closing, Line>>
     ensures { DueBehind (closing_for input.now) result }
 {
-    let due = output::due_for(input);
-    let answer = due.answer;
-    let g = due.graph;
-    let k = due.threshold;
-    match answer {
-        Answer::Refused(line) => Remaining::Lines(Closing::Refused(line)),
-        Answer::Groups => {
-            let printed = print_groups(rt, g, k);
-            let Printed::All(count) = printed else {
-                return Remaining::Nothing;
-            };
-            Remaining::Lines(output::closing_lines(g, k, count))
+    let due = match output::due_for(input) {
+        Ok(due) => due,
+        Err(line) => return Ok(Err(line)),
+    };
+    let count = print_groups(rt, due.graph, due.threshold)?;
+    Ok(Ok(output::closing_lines(due.graph, due.threshold, count)))
+}
+
+// Prints what is due for an input.
+fn print_report(rt: HostRuntime, input: &[u8]) -> io::Result<()> {
+    let closing = print_due(rt, input)?;
+    let text = output_text::closing_text(closing);
+    streams::write_all(rt, &mut rt.stdout(), text.as_str().as_bytes())?;
+    streams::settle_output(rt)
+}
+
+// Prints the report on standard input.
+// kept: std fills a buffer and says how much of it.
+fn report_on_input(rt: HostRuntime) -> io::Result<()> {
+    let mut space = [0u8; 65536];
+    match streams::read_all(&mut rt.stdin(), &mut space) {
+        Ok(length) => print_report(rt, &space[..length]),
+        Err(read) => {
+            streams::fail(rt, "groups: cannot read standard input", read.error);
+            Ok(())
         }
     }
 }
 
-// Prints the lines behind the groups, and returns whether all were printed.
-fn print_closing(rt: HostRuntime, closing: Closing) -> bool {
-    let mut text = [0u8; output_text::CLOSING_TEXT];
-    let end = output_text::put_closing(closing, &mut text);
-    streams::print(rt, &mut rt.stdout(), &text[..end])
-}
-
-// Prints what is due for an input, up to the first write that fails.
-fn print_report(rt: HostRuntime, input: &[u8]) {
-    let remaining = print_due(rt, input);
-    let Remaining::Lines(closing) = remaining else {
-        return;
-    };
-    if print_closing(rt, closing) {
-        streams::settle_output(rt);
-    }
-}
-
-// Prints the report on standard input.
-fn report_on_input(rt: HostRuntime) {
-    let mut space = [0u8; 65536];
-    let read = streams::read_all(&mut rt.stdin(), &mut space);
-    if let Some(error) = read.failure {
-        streams::fail(rt, "groups: cannot read standard input", error);
-        return;
-    }
-    let length = read.count;
-    print_report(rt, &space[..length]);
-}
-
 // A terminal as standard input is someone who does not know the program yet.
-fn report_or_usage(rt: HostRuntime) {
+fn report_or_usage(rt: HostRuntime) -> io::Result<()> {
     if rt.stdin().is_terminal() {
-        usage::print_usage(rt, &mut rt.stderr());
-        return;
+        return usage::print_usage(rt, &mut rt.stderr());
     }
-    report_on_input(rt);
+    report_on_input(rt)
 }
 
 // Whether the program was started with an argument at a place.
@@ -145,22 +99,26 @@ fn has_argument(rt: HostRuntime, place: usize) -> bool {
     !matches!(rt.arg(place, &mut space), Err(FillError::NotPresent))
 }
 
-// How many arguments there are, its own name among them; three stands for more of them too.
+// How many arguments there are, its own name among them; at most three are counted.
 fn argument_count(rt: HostRuntime) -> usize {
-    if !has_argument(rt, 1) {
-        return 1;
-    }
-    if has_argument(rt, 2) { 3 } else { 2 }
+    1 + (1..3).take_while(|place| has_argument(rt, *place)).count()
+}
+
+// What the arguments ask for.
+fn request(rt: HostRuntime) -> Request {
+    let mut first = [0u8; 16];
+    let length = rt.arg(1, &mut first).unwrap_or(0);
+    requests::request_of(argument_count(rt), &first[..length])
 }
 
 fn main(rt: HostRuntime) {
-    let mut first = [0u8; 16];
-    let length = rt.arg(1, &mut first).unwrap_or(0);
-    let request = requests::request_of(argument_count(rt), &first[..length]);
-    match request {
+    let printed = match request(rt) {
         Request::Groups => report_or_usage(rt),
         Request::Help => usage::print_usage(rt, &mut rt.stdout()),
         Request::Version => usage::print_version(rt),
         Request::Unknown => usage::print_usage(rt, &mut rt.stderr()),
+    };
+    if let Err(error) = printed {
+        streams::fail(rt, "groups: the output is incomplete", error);
     }
 }

@@ -1,9 +1,10 @@
 // What the program says of itself.
-use crate::streams::print;
+use crate::streams::write_all;
+use std::io;
 use std::io::Write;
 
-pub fn print_usage<W: Write>(rt: HostRuntime, to: &mut W) {
-    print(
+pub fn print_usage<W: Write>(rt: HostRuntime, to: &mut W) -> io::Result<()> {
+    write_all(
         rt,
         to,
         b"usage: groups <INPUT
@@ -21,9 +22,9 @@ A report is complete if its last line is `groups N`; an input that is refused ge
 line, `refused N` or `refused N at PLACE`.
 groups --help prints this, groups --version the version.
 ",
-    );
+    )
 }
 
-pub fn print_version(rt: HostRuntime) {
-    print(rt, &mut rt.stdout(), b"groups (Mastpickle) 4.1.0\n");
+pub fn print_version(rt: HostRuntime) -> io::Result<()> {
+    write_all(rt, &mut rt.stdout(), b"groups (Mastpickle) 4.1.0\n")
 }

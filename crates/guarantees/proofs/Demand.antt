@@ -7,23 +7,23 @@ use mathlib.Core.Bool.{true, false}
 use mathlib.Core.List.{List, [], ◌∷◌, ◌++◌, map, Memᴰ}
 use lib.ListN.{length}
 use borrow.Author.Tests.{le-leb}
+use Rattle.std.specs.Prelude.{Result, Ok, Err}
+use Rattle.vertex_set.specs.declared.Sides.{Sides}
 use Rattle.vertex_set.specs.Lists.{Sorted}
 use Rattle.vertex_set.proofs.Booleans.{clash}
 use Rattle.signed_graph.specs.declared.SignedGraph.{SignedGraph}
-use Rattle.signed_graph.specs.declared.Check.{Check}
-use Rattle.signed_graph.specs.declared.Check.TheVariants.{Accepted, Refused}
+use Rattle.signed_graph.specs.declared.Refusal.{Refusal}
 use Rattle.signed_graph.specs.Soundness.{sound}
-use Rattle.signed_graph.specs.Calls.{check_by, check_of}
+use Rattle.signed_graph.specs.Calls.{Check, passed, check_by, check_of}
 use Rattle.signed_graph.proofs.Soundness.{Sound, to_sound}
 use Rattle.clique.specs.Groups.{Group, groups}
 use Rattle.clique.proofs.Groups.{groups_exact}
-use Rattle.reduction.specs.Reductions.{reduced}
+use Rattle.reduction.specs.Reductions.{reduced, reduced_left}
 use Rattle.reduction.proofs.Groups.{SameGroups, reduce_keeps}
 use Rattle.edge_list.proofs.Answers.{accepted_words, accepted_sound}
 use Rattle.pages.specs.declared.Bookmark.{Bookmark}
 use Rattle.pages.specs.declared.Bookmark.TheVariants.{Start}
 use Rattle.pages.specs.declared.Page.{Page}
-use Rattle.largest.specs.declared.LargestGroup.{LargestGroup}
 use Rattle.clique.specs.Listing.{Item, item_of, comes_before, listing, item_set}
 use Rattle.group_pages.specs.Records.{record_width, record_of}
 use Rattle.pages.specs.Pages.{due, answer, filled, page_by, bytes_by}
@@ -58,8 +58,8 @@ same_listing g r k so same =
 idle : (t : Check) (c : Call) (l : List Item) → c.answer ≡ page_by item_set record_width t c.from (length c.entry) l
     → c.exit ≡ bytes_by record_of record_width t l c.entry → taken c ≡ false → Idle (call_step c)
 unfolding answer
-idle Accepted c l p q e = clash (taken c) (ap (λ (a : Page). is_accepted a.outcome) p) e
-idle (Refused why) c l p q e =
+idle (Ok x) c l p q e = clash (taken c) (ap (λ (a : Page). is_accepted a.outcome) p) e
+idle (Err why) c l p q e =
     record {
       counted = ap (λ (a : Page). a.count) p;
       kept = q;
@@ -72,9 +72,9 @@ ran_idle c h = idle (check_of c.graph c.k) c (due_groups c.graph c.k c.from) h.a
 
 -- ---- the largest group
 
-largest_of_law : (l : List Item) → Sorted comes_before l → (r : LargestGroup) → r ≡ largest_or_none (largest_of l) → Largest l r
+largest_of_law : (l : List Item) → Sorted comes_before l → (r : Result Sides Refusal) → r ≡ largest_or_none (largest_of l) → Largest l r
 unfolding largest_of
-largest_of_law [] h r e = record { none = (λ q. refl, λ q. ap (λ (a : LargestGroup). a.outcome) e); else = λ d. absurd (d refl) }
+largest_of_law [] h r e = record { none = (λ q. refl, λ q. e); else = λ d. absurd (d refl) }
 largest_of_law (x ∷ l) h r e =
     record {
       none = (λ q. absurd (let z : ◌≡◌ {A = ℕ} 0 1 = cc in omega arith), λ q. absurd (omega arith));
@@ -90,22 +90,30 @@ module _ (S : SignedGraph) (k : ℕ) (sound_S : sound S ≡ true) (small : k ≤
 
   -- ---- S and S reduced
 
+  -- one of the two is S, or what the reduction leaves
+  one_left : (P : SignedGraph → Type 0) → P S → P (reduced_left (reduced S k)) → (g : SignedGraph) → OneOf S k g → P g
+  one_left P p q g (inl e) = subst P (sym e) p
+  one_left P p q g (inr e) = subst P (sym e) q
+
   pub one_listing : (g : SignedGraph) → OneOf S k g → listing g k ≡ listing S k
-  one_listing g (inl e) = ap (λ (x : SignedGraph). listing x k) e
-  one_listing g (inr e) =
-      ap (λ (x : SignedGraph). listing x k) e ∙ same_listing S (reduced S k).graph k so (reduce_keeps S k sound_S small).1
+  one_listing =
+      one_left (λ g. listing g k ≡ listing S k) refl
+      (same_listing S (reduced_left (reduced S k)) k so (reduce_keeps S k sound_S small).1)
 
   one_sound : (g : SignedGraph) → OneOf S k g → sound g ≡ true
-  one_sound g (inl e) = ap sound e ∙ sound_S
-  one_sound g (inr e) = ap sound e ∙ (reduce_keeps S k sound_S small).0
+  one_sound = one_left (λ g. sound g ≡ true) sound_S (reduce_keeps S k sound_S small).0
 
-  pub one_check : (g : SignedGraph) → OneOf S k g → check_of g k ≡ Accepted
+  pub one_check : (g : SignedGraph) → OneOf S k g → check_of g k ≡ passed
   one_check g o = ap₂ check_by (one_sound g o) (le-leb k 32 small)
+
+  -- what the reduction leaves is one of the two
+  pub left_one : OneOf S k (reduced_left (reduced S k))
+  left_one = inr refl
 
   -- ---- the page calls
 
   module _ (c : Call) (h : Ran c) (w : Gets S k c) where
-    check : check_of c.graph c.k ≡ Accepted
+    check : check_of c.graph c.k ≡ passed
     check = ap (check_of c.graph) w.0 ∙ one_check c.graph w.1
 
     same_due : due_groups c.graph c.k c.from ≡ due item_set c.from (listing S k)
@@ -148,7 +156,7 @@ module _ (S : SignedGraph) (k : ℕ) (sound_S : sound S ≡ true) (small : k ≤
   pub one_largest : (g : SignedGraph) → OneOf S k g → largest_group g k ≡ largest_or_none (largest_of (listing S k))
   one_largest g o = ap₂ (λ (x : Check) (l : List Item). largest_group_by x (largest_of l)) (one_check g o) (one_listing g o)
 
-  largest_one : (g : SignedGraph) → OneOf S k g → (r : LargestGroup) → r ≡ largest_group g k → Largest (listing S k) r
+  largest_one : (g : SignedGraph) → OneOf S k g → (r : Result Sides Refusal) → r ≡ largest_group g k → Largest (listing S k) r
   largest_one g o r e = largest_of_law (listing S k) sorted r (e ∙ one_largest g o)
 
   whole : (calls : List Call) → Linked S k Start calls → Demand3 S k calls

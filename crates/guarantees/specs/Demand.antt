@@ -1,19 +1,18 @@
 -- The users' third demand: what a list of page calls writes, all calls together, and what the call for the largest group says.
 -- S is the graph of an accepted list, k a threshold. Assumes nothing.
-use Rattle.std.specs.Prelude.{ℕ, ◌≤◌, ◌≡◌, ◌≢◌, ◌⊎◌, ◌↔◌, Bool, true, false, length}
+use Rattle.std.specs.Prelude.{ℕ, ◌≤◌, ◌≡◌, ◌≢◌, ◌⊎◌, ◌↔◌, Bool, true, false, length, Result, Ok, Err}
 use mathlib.Core.List.{List, [], ◌∷◌, ◌++◌, Memᴰ}
+use Rattle.vertex_set.specs.declared.Sides.{Sides}
 use Rattle.vertex_set.specs.Lists.{Sorted}
 use Rattle.signed_graph.specs.declared.SignedGraph.{SignedGraph}
-use Rattle.signed_graph.specs.declared.Check.{Check}
-use Rattle.signed_graph.specs.declared.Check.TheVariants.{Accepted, Refused}
-use Rattle.reduction.specs.Reductions.{reduced}
-use Rattle.commands.specs.Steps.{accepted}
+use Rattle.signed_graph.specs.declared.Refusal.{Refusal}
+use Rattle.signed_graph.specs.declared.Refusal.TheVariants.{NoGroup}
+use Rattle.signed_graph.specs.Calls.{Check}
+use Rattle.reduction.specs.Reductions.{reduced, reduced_left}
 use Rattle.edge_list.specs.Decoding.{decoded}
 use Rattle.pages.specs.declared.Bookmark.{Bookmark}
 use Rattle.pages.specs.declared.Bookmark.TheVariants.{Start}
 use Rattle.pages.specs.declared.Page.{Page}
-use Rattle.signed_graph.specs.declared.Refusal.TheVariants.{NoGroup}
-use Rattle.largest.specs.declared.LargestGroup.{LargestGroup}
 use Rattle.clique.specs.Listing.{Item, Listed, comes_before, listing}
 use Rattle.group_pages.specs.Records.{record_width, record_of}
 use Rattle.group_pages.specs.Calls.{page_of, page_bytes}
@@ -37,8 +36,8 @@ pub record Ran (c : Call) : Type 0 where
   pub wrote : c.exit ≡ page_bytes c.graph c.k c.from c.entry
 
 abbrev pub is_accepted : Check → Bool
-is_accepted Accepted = true
-is_accepted (Refused why) = false
+is_accepted (Ok passed) = true
+is_accepted (Err why) = false
 
 -- the call was not refused
 abbrev pub taken : Call → Bool
@@ -53,7 +52,7 @@ call_of g k m entry answer exit = record { graph = g; k = k; from = m; entry = e
 
 -- g is S, or S reduced for k
 abbrev pub OneOf : SignedGraph → ℕ → SignedGraph → Type 0
-OneOf S k g = (g ≡ S) ⊎ (g ≡ (reduced S k).graph)
+OneOf S k g = (g ≡ S) ⊎ (g ≡ reduced_left (reduced S k))
 
 -- the call has the threshold k, and the graph S or S reduced for k
 abbrev pub Gets : SignedGraph → ℕ → Call → Type 0
@@ -68,11 +67,11 @@ Linked S k m (c ∷ calls) = Ran c × (c.from ≡ m) × (taken c ≡ true → Ge
 -- ---- what is said of them
 
 -- of the answer of the call for the largest group, where the groups are those of l
-pub record Largest (l : List Item) (r : LargestGroup) : Type 0 where
+pub record Largest (l : List Item) (r : Result Sides Refusal) : Type 0 where
   -- it says that there is none exactly where there is none
-  pub none : (r.outcome ≡ Refused NoGroup) ↔ (length l ≡ 0)
+  pub none : (r ≡ Err NoGroup) ↔ (length l ≡ 0)
   -- else it gives the sides of one of them, and each of the others has fewer vertices, or as many and a later place
-  pub else : length l ≢ 0 → (x : Item) × (r ≡ record { outcome = Accepted; left = x.left; right = x.right }) × IsLargest l x
+  pub else : length l ≢ 0 → (x : Item) × (r ≡ Ok (record { left = x.left; right = x.right })) × IsLargest l x
 
 -- the whole
 pub record Demand3 (S : SignedGraph) (k : ℕ) (calls : List Call) : Type 0 where
@@ -84,10 +83,10 @@ pub record Demand3 (S : SignedGraph) (k : ℕ) (calls : List Call) : Type 0 wher
   -- a call with k, and S or S reduced for k, is accepted, whatever its buffer
   pub not_refused : (done : List Call) (c : Call) (left : List Call) → calls ≡ done ++ c ∷ left → Gets S k c → taken c ≡ true
   -- the largest group, asked of S or of S reduced for k
-  pub largest : (g : SignedGraph) → OneOf S k g → (r : LargestGroup) → r ≡ largest_group g k → Largest (listing S k) r
+  pub largest : (g : SignedGraph) → OneOf S k g → (r : Result Sides Refusal) → r ≡ largest_group g k → Largest (listing S k) r
 
 -- for every accepted list, be it an edge list or an amendment list, every threshold up to 32 and every list of page calls from Start
 -- on, refused ones among them, with buffers of any lengths
 abbrev pub Statement : Type 0
-Statement = (bytes : List ℕ) (S : SignedGraph) → decoded bytes ≡ accepted S → (k : ℕ) → k ≤ 32 → (calls : List Call)
+Statement = (bytes : List ℕ) (S : SignedGraph) → decoded bytes ≡ Ok S → (k : ℕ) → k ≤ 32 → (calls : List Call)
     → Linked S k Start calls → Demand3 S k calls

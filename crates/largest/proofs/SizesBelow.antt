@@ -1,5 +1,5 @@
 -- How many vertices the groups below a node have at most. Assumes nothing.
-use Prim.Native.Nat.{ℕ, ◌-◌, ◌≤◌}
+use Prim.Native.Nat.{ℕ, ◌+◌, ◌≤◌}
 use native.Mathlib.Omega.{arith}
 use mathlib.Core.Path.{◌≡◌, sym, ◌∙◌}
 use mathlib.Core.Bool.{Bool, true, ◌||◌}
@@ -19,10 +19,10 @@ use Rattle.clique.proofs.Parts.{parts_within, listed_parts}
 
 -- ---- a group below a node
 
--- `have` vertices are chosen
-pub none_larger_have : {g : SignedGraph} (chosen left right most have : ℕ) → have ≡ size chosen → have ≤ most
-    → AtMost g left right (most - have) → NoneLarger g chosen left right most
-none_larger_have chosen left right most have is le h = (
+-- there is room for so many beside the chosen
+pub none_larger_room : {g : SignedGraph} (chosen left right most room : ℕ) → size chosen + room ≡ most → AtMost g left right room
+    → NoneLarger g chosen left right most
+none_larger_room chosen left right most room is h = (
   omega arith,
   λ l r parts in_l in_r. omega (arith, h l r parts in_l in_r),
 )

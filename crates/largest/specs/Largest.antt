@@ -1,15 +1,14 @@
 -- The largest group (document 01: the biggest), and what the call for it answers. Assumes nothing.
-use Rattle.std.specs.Prelude.{ℕ, ◌<◌, ◌≡◌, ◌≢◌, ◌⊎◌, Bool, true, false, leb, ltb}
+use Rattle.std.specs.Prelude.{ℕ, ◌<◌, ◌≡◌, ◌≢◌, ◌⊎◌, Bool, true, false, leb, ltb, Result, Ok, Err}
 use mathlib.Core.List.{List, [], ◌∷◌, Memᴰ}
 use Rattle.std.proofs.Math.Option.{Option, none, some}
 use Rattle.signed_graph.specs.declared.SignedGraph.{SignedGraph}
-use Rattle.signed_graph.specs.declared.Check.{Check}
-use Rattle.signed_graph.specs.declared.Check.TheVariants.{Accepted, Refused}
+use Rattle.signed_graph.specs.declared.Refusal.{Refusal}
 use Rattle.signed_graph.specs.declared.Refusal.TheVariants.{NoGroup}
 use Rattle.signed_graph.specs.Soundness.{sound}
-use Rattle.signed_graph.specs.Calls.{check_of}
+use Rattle.signed_graph.specs.Calls.{Check, check_of}
 use Rattle.signed_graph.specs.Thresholds.{Threshold}
-use Rattle.largest.specs.declared.LargestGroup.{LargestGroup}
+use Rattle.vertex_set.specs.declared.Sides.{Sides}
 use Rattle.clique.specs.Listing.{Item, comes_before, listing, size_of}
 
 -- x is the largest of a list of groups: every other has fewer vertices, or as many and comes later in listing order
@@ -27,17 +26,23 @@ unfoldable pub largest_of : List Item → Option Item
 largest_of [] = none
 largest_of (x ∷ l) = some (larger x (largest_of l))
 
--- the answer: the sides of the largest group; where there is none, refusal 12, or the call is refused before, both are empty
-abbrev pub largest_or_none : Option Item → LargestGroup
-largest_or_none none = record { outcome = Refused NoGroup; left = 0; right = 0 }
-largest_or_none (some x) = record { outcome = Accepted; left = x.left; right = x.right }
+-- the answer: the sides of the largest group; refusal 12 where there is none
+abbrev pub largest_or_none : Option Item → Result Sides Refusal
+largest_or_none none = Err NoGroup
+largest_or_none (some x) = Ok (record { left = x.left; right = x.right })
 
-abbrev pub largest_group_by : Check → Option Item → LargestGroup
-largest_group_by Accepted x = largest_or_none x
-largest_group_by (Refused why) x = record { outcome = Refused why; left = 0; right = 0 }
+-- the check of the call comes first
+abbrev pub largest_group_by : Check → Option Item → Result Sides Refusal
+largest_group_by (Ok passed) x = largest_or_none x
+largest_group_by (Err why) x = Err why
 
-abbrev pub largest_group : SignedGraph → Threshold → LargestGroup
+abbrev pub largest_group : SignedGraph → Threshold → Result Sides Refusal
 largest_group g k = largest_group_by (check_of g k) (largest_of (listing g k))
+
+-- the sides in an answer; both are empty where the call is refused
+abbrev pub sides_left : Result Sides Refusal → Sides
+sides_left (Ok sides) = sides
+sides_left (Err why) = record { left = 0; right = 0 }
 
 -- the number that the call returns: 10 where the graph is not sound, 11 where k is over 32, 12 where there is no group
 abbrev pub none_number : List Item → ℕ

@@ -1,305 +1,173 @@
 // The largest group of a graph.
+// kept: over SoundGraph this crate's contracts would ask more: they speak of every sound graph with two tables (`ForSound`).
 #![tactic(auto)]
 
-ghost use Rattle.std.specs.Prelude.{◌≡◌, true};
-ghost use Rattle.std.specs.Int.Bits.{bit_or};
-ghost use Rattle.signed_graph.specs.Soundness.{sound};
-ghost use Rattle.signed_graph.specs.Calls.{check_number};
+ghost use Rattle.std.specs.Prelude.{◌≡◌, ◌+◌, ℕ, true, IsNone};
+ghost use Rattle.vertex_set.specs.Sets.{size};
+ghost use Rattle.signed_graph.specs.Calls.{answer_number};
 ghost use Rattle.pages.specs.declared.Bookmark.TheVariants as bookmark;
 ghost use Rattle.clique.specs.Listing.{listing};
 ghost use Rattle.largest.specs.Largest.{largest_of, largest_or_none, largest_group, largest_number};
-ghost use Rattle.nodes.specs.Nodes.{node_of};
-ghost use Rattle.nodes.specs.Below.{leaf_items};
 ghost use Rattle.signed_graph.specs.Tables.{ForSound};
 ghost use Rattle.bounds.specs.Bounds.{Tabled, NoneLarger};
-ghost use Rattle.largest.specs.Bests.{best_of, Finds};
+ghost use Rattle.nodes.specs.Nodes.{chosen, undecided};
+ghost use Rattle.nodes.specs.Below.{leaf_items};
+ghost use Rattle.largest.specs.Bests.{most, best_of, Finds};
 
-use bounds::Tested;
-use look_ahead::{FUEL, PATIENCE};
+use bounds::AloneFirst;
+use look_ahead::FUEL;
 use nodes::Node;
-use signed_graph::{Check, Refusal, SignedGraph};
+use signed_graph::sound::SoundGraph;
+use signed_graph::{Refusal, SignedGraph};
+use vertex_set::Sides;
 
-// The sides of the largest group; both are empty where the call is refused, as it is where there is no group.
-#[derive(Clone, Copy)]
-pub struct LargestGroup {
-    pub outcome: Check,
-    pub left: u64,
-    pub right: u64,
-}
-
-// The largest group met so far; of size 1 where none was, since every group is larger.
+// A group and its size.
 #[derive(Clone, Copy)]
 struct Best {
     pub size: u64,
-    pub left: u64,
-    pub right: u64,
+    pub sides: Sides,
 }
 
-// The larger of the largest group so far and the chosen set of a node with nothing undecided, where that is a group.
-fn largest_leaf(at: Node, k: u64, best: Best) -> Best
-    ensures { result ≡ best_of best (leaf_items k bookmark.Start at) }
-{
-    let left = at.left;
-    let right = at.right;
-    if !nodes::is_group(at, k) {
-        return best;
-    }
-    let size = vertex_set::size(left.chosen | right.chosen);
-    if size <= best.size {
-        return best;
-    }
-    Best {
-        size,
-        left: left.chosen,
-        right: right.chosen,
-    }
-}
-
-// True only where no group has more than `most` vertices that is the chosen ones and some of these for the left and the right: seen
-// at once, by the table or by colours.
-fn none_larger_at_once<'a>(
-    chosen: u64,
-    left: u64,
-    right: u64,
-    most: u64,
-    table: &'a [u64; 64],
-    positive: &'a [u64; 64],
-    negative: &'a [u64; 64],
-) -> bool
-    ensures { result ≡ true → ForSound positive.now negative.now (λ g.
-        Tabled g table.now (bit_or left right) → NoneLarger g chosen left right most) }
-{
-    let have = vertex_set::size(chosen);
-    if most < have {
-        return false;
-    }
-    bounds::is_bounded(left, right, most - have, table, positive, negative)
-}
-
-// The same, seen by branching.
-fn none_larger<'a>(
-    chosen: u64,
-    left: u64,
-    right: u64,
-    most: u64,
-    table: &'a [u64; 64],
-    positive: &'a [u64; 64],
-    negative: &'a [u64; 64],
-) -> bool
-    ensures { result ≡ true → ForSound positive.now negative.now (λ g.
-        Tabled g table.now (bit_or left right) → NoneLarger g chosen left right most) }
-{
-    let have = vertex_set::size(chosen);
-    if most < have {
-        return false;
-    }
-    let found = bounds::at_most_alone_first(
-        left,
-        right,
-        most - have,
-        table,
-        positive,
-        negative,
-        FUEL,
-    );
-    found.holds
-}
-
-// The largest group met so far, and how many nodes count as visited in vain since.
+// The largest group met so far, if one was, and how many nodes count as visited in vain since.
 #[derive(Clone, Copy)]
 struct Hunt {
-    pub best: Best,
+    pub best: Option<Best>,
     pub idle: u64,
 }
 
-// Holds only where no group for k below the node has more vertices than the largest so far. It is tested, and counts, as in
-// `look_ahead`.
-fn look_for_larger<'a>(
-    at: Node,
-    k: u64,
-    table: &'a [u64; 64],
-    positive: &'a [u64; 64],
-    negative: &'a [u64; 64],
-    best: Best,
-    idle: u64,
-) -> Tested
-    ensures { result.holds ≡ true → Finds table.now positive.now negative.now k at best best }
+// A search for the largest group for k of a graph, with a table of bounds on its balanced sets.
+#[derive(Clone, Copy)]
+struct Search<'a> {
+    pub g: &'a SignedGraph,
+    pub k: u64,
+    pub table: &'a [u64; 64],
+}
+
+// The size of the largest group so far; 1 where there is none, since every group is larger.
+fn most(best: Option<Best>) -> u64
+    ensures { result ≡ most best }
 {
-    if idle < PATIENCE {
-        return Tested {
-            holds: false,
-            count: idle + 1,
-        };
-    }
-    if look_ahead::has_short_side(at, k, positive, negative) {
-        return Tested {
-            holds: true,
-            count: idle,
-        };
-    }
-    let left = at.left;
-    let right = at.right;
-    if none_larger(
-        left.chosen | right.chosen,
-        left.candidates,
-        right.candidates,
-        best.size,
-        table,
-        positive,
-        negative,
-    ) {
-        return Tested {
-            holds: true,
-            count: idle,
-        };
-    }
-    Tested {
-        holds: false,
-        count: 0,
+    match best {
+        None => 1,
+        Some(found) => found.size,
     }
 }
 
-// The largest of the largest group so far and of the groups below a node; of equals, the first. The node goes as in `list_below`.
-fn largest_below<'a>(
-    left_chosen: u64,
-    left_candidates: u64,
-    left_excluded: u64,
-    right_chosen: u64,
-    right_candidates: u64,
-    right_excluded: u64,
-    k: u64,
-    table: &'a [u64; 64],
-    positive: &'a [u64; 64],
-    negative: &'a [u64; 64],
-    best: Best,
-    idle: u64,
-) -> Hunt
-    ensures { Finds table.now positive.now negative.now k
-        (node_of left_chosen left_candidates left_excluded right_chosen right_candidates right_excluded) best result.best }
+// The larger of the largest group so far and the chosen set of a node with nothing undecided, where that is a group.
+#[tactic(auto, using(crate::proofs::Bests::finds_other, crate::proofs::Bests::finds_smaller, crate::proofs::Bests::finds_larger))]
+fn largest_leaf(at: Node, k: u64, best: Option<Best>) -> Option<Best>
+    ensures { result ≡ best_of best (leaf_items k bookmark.Start at) }
 {
-    if none_larger_at_once(
-        left_chosen | right_chosen,
-        left_candidates,
-        right_candidates,
-        best.size,
-        table,
-        positive,
-        negative,
-    ) {
-        return Hunt { best, idle };
+    if !nodes::is_group(at, k) {
+        return best;
     }
-    let at = nodes::node_of(
-        left_chosen,
-        left_candidates,
-        left_excluded,
-        right_chosen,
-        right_candidates,
-        right_excluded,
-    );
-    if nodes::is_short(at, k) {
-        return Hunt { best, idle };
-    }
-    let open = left_candidates | right_candidates;
-    if open == 0 {
-        return Hunt {
-            best: largest_leaf(at, k, best),
-            idle,
-        };
-    }
-    let v = vertex_set::lowest(open);
-    let a = nodes::put_in(at, v, positive[v], negative[v]);
-    let first = largest_below(
-        a.left.chosen,
-        a.left.candidates,
-        a.left.excluded,
-        a.right.chosen,
-        a.right.candidates,
-        a.right.excluded,
-        k,
-        table,
-        positive,
-        negative,
-        best,
-        idle,
-    );
-    let met = first.best;
-    let b = nodes::leave_out(at, v);
-    let ahead = look_for_larger(b, k, table, positive, negative, met, first.idle);
-    if ahead.holds {
-        return Hunt {
-            best: met,
-            idle: ahead.count,
-        };
-    }
-    largest_below(
-        b.left.chosen,
-        b.left.candidates,
-        b.left.excluded,
-        b.right.chosen,
-        b.right.candidates,
-        b.right.excluded,
-        k,
-        table,
-        positive,
-        negative,
-        met,
-        ahead.count,
-    )
-}
-
-// The largest group for k of a sound graph.
-fn largest_sound(g: SignedGraph, k: u64) -> LargestGroup
-    requires { sound g ≡ true }
-    ensures { result ≡ largest_or_none (largest_of (listing g k)) }
-{
-    let none = Best {
-        size: 1,
-        left: 0,
-        right: 0,
+    let sides = Sides {
+        left: at.left.chosen,
+        right: at.right.chosen,
     };
-    let all = signed_graph::vertices(g);
-    let root = nodes::root(all, &g.positive, &g.negative);
-    let table = bounds::size_table(g.n, all, &g.positive, &g.negative);
-    let hunt = largest_below(
-        root.left.chosen,
-        root.left.candidates,
-        root.left.excluded,
-        root.right.chosen,
-        root.right.candidates,
-        root.right.excluded,
-        k,
-        &table,
-        &g.positive,
-        &g.negative,
-        none,
-        0,
-    );
-    let best = hunt.best;
-    if best.size == 1 {
-        return LargestGroup {
-            outcome: Check::Refused(Refusal::NoGroup),
-            left: 0,
-            right: 0,
-        };
+    let size = vertex_set::size(sides.left | sides.right);
+    if size <= most(best) {
+        return best;
     }
-    LargestGroup {
-        outcome: Check::Accepted,
-        left: best.left,
-        right: best.right,
+    Some(Best { size, sides })
+}
+
+// True only where the chosen vertices of a node leave room for some number of further ones within `most`, and no balanced set with its
+// sides within the candidates has more by the test.
+fn none_larger<F: FnOnce(Sides, u64) -> bool>(at: Node, most: u64, is_bounded: F) -> bool
+    requires { F.IsAlwaysCallable is_bounded }
+    ensures { result ≡ true → ((room : ℕ) × (size (chosen at) + room ≡ most)
+        × F.post is_bounded (record { left = at.left.candidates; right = at.right.candidates }) room true) }
+{
+    let open = Sides {
+        left: at.left.candidates,
+        right: at.right.candidates,
+    };
+    match most.checked_sub(vertex_set::size(at.left.chosen | at.right.chosen)) {
+        None => false,
+        Some(room) => is_bounded(open, room),
     }
 }
 
-// The group for k with the most vertices; of equals, the first in listing order.
-pub fn largest(g: SignedGraph, k: u64) -> LargestGroup
-    ensures answer { result ≡ largest_group g k }
-    ensures number { check_number result.outcome ≡ largest_number g k }
+// True only where no group below the node has more than `most` vertices: seen by branching.
+#[tactic(auto, using(crate::proofs::SizesBelow::none_larger_room))]
+fn none_larger_by_branching(at: Node, most: u64, table: &[u64; 64], g: &SignedGraph) -> bool
+    ensures { result ≡ true → ForSound g.now.positive g.now.negative (λ g. Tabled g table.now (undecided at)
+        → NoneLarger g (chosen at) at.left.candidates at.right.candidates most) }
 {
-    match signed_graph::check_call(g, k) {
-        Check::Refused(refusal) => LargestGroup {
-            outcome: Check::Refused(refusal),
-            left: 0,
-            right: 0,
-        },
-        Check::Accepted => largest_sound(g, k),
+    none_larger(at, most, |open, room| {
+        bounds::at_most::<AloneFirst>(open, room, table, g, FUEL).is_some()
+    })
+}
+
+impl<'a> Search<'a> {
+    // None where it was seen that no group below the node has more vertices than the largest so far; else the count of nodes visited in
+    // vain, as `look_ahead::prune` has it.
+    fn look_for_larger(&self, at: Node, hunt: Hunt) -> Option<u64>
+        ensures { IsNone result → Finds self.now.table.now self.now.g.now.positive self.now.g.now.negative self.now.k at
+            hunt.best hunt.best }
+    {
+        let most = most(hunt.best);
+        look_ahead::prune(at, self.k, self.g, hunt.idle, || {
+            none_larger_by_branching(at, most, self.table, self.g)
+        })
     }
+
+    // The largest of the largest group so far and of the groups below a node; of equals, the first.
+    fn below(&self, at: Node, hunt: Hunt) -> Hunt
+        ensures { Finds self.now.table.now self.now.g.now.positive self.now.g.now.negative self.now.k at hunt.best result.best }
+    {
+        if none_larger(at, most(hunt.best), |open, room| {
+            bounds::is_bounded(open, room, self.table, self.g)
+        }) {
+            return hunt;
+        }
+        if nodes::is_short(at, self.k) {
+            return hunt;
+        }
+        let undecided = nodes::undecided(at);
+        if undecided == 0 {
+            return Hunt {
+                best: largest_leaf(at, self.k, hunt.best),
+                ..hunt
+            };
+        }
+        let v = vertex_set::lowest(undecided);
+        let first = self.below(nodes::put_in(at, v, self.g.partners(v)), hunt);
+        let rest = nodes::leave_out(at, v);
+        match self.look_for_larger(rest, first) {
+            None => first,
+            Some(idle) => self.below(rest, Hunt { idle, ..first }),
+        }
+    }
+}
+
+// The sides of the largest group for k of a sound graph.
+fn largest_sound(g: SoundGraph, k: u64) -> Result<Sides, Refusal>
+    ensures { result ≡ largest_or_none (largest_of (listing g.entry.graph.now k)) }
+{
+    let graph = g.graph;
+    let all = signed_graph::vertices(*graph);
+    let table = bounds::size_table(graph.n, all, graph);
+    let search = Search {
+        g: graph,
+        k,
+        table: &table,
+    };
+    let start = Hunt {
+        best: None,
+        idle: 0,
+    };
+    match search.below(nodes::root(all, graph), start).best {
+        None => Err(Refusal::NoGroup),
+        Some(found) => Ok(found.sides),
+    }
+}
+
+// The sides of the group for k with the most vertices; of equals, the first in listing order.
+pub fn largest(g: SignedGraph, k: u64) -> Result<Sides, Refusal>
+    ensures answer { result ≡ largest_group g k }
+    ensures number { answer_number result ≡ largest_number g k }
+{
+    largest_sound(SoundGraph::check_call(&g, k)?, k)
 }

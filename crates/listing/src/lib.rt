@@ -1,33 +1,49 @@
 // The groups of a graph by pages, in listing order.
+// kept: over SoundGraph this crate's contracts would ask more: they speak of every sound graph with two tables (`ForSound`).
 #![tactic(auto)]
 
-ghost use Rattle.std.specs.Prelude.{◌≡◌, true, length};
-ghost use Rattle.signed_graph.specs.Soundness.{sound};
-ghost use Rattle.signed_graph.specs.Calls.{check_number, refusal_number};
+ghost use Rattle.std.specs.Prelude.{◌≡◌, true, length, IfSome};
+ghost use Rattle.signed_graph.specs.Calls.{answer_number, refusal_number};
 ghost use Rattle.pages.specs.Answers.{page_values};
 ghost use Rattle.group_pages.specs.Calls.{due_groups, page_of, page_bytes, page_values_of};
 ghost use Rattle.group_pages.specs.Filling.{HoldsGroups, AddsGroups};
-ghost use Rattle.nodes.specs.Nodes.{node_of};
 ghost use Rattle.nodes.specs.Below.{leaf_items};
+ghost use Rattle.vertex_set.specs.Sets.{Subset};
+ghost use Rattle.nodes.specs.Nodes as nodes;
+ghost use Rattle.propagation.specs.Propagation.{Advances};
 ghost use Rattle.listing.specs.Lists.{Lists};
 
 use nodes::Node;
-use pages::{Bookmark, End, Page, Tally};
-use signed_graph::{Check, SignedGraph};
+use pages::{Bookmark, End, Page};
+use signed_graph::SignedGraph;
+use signed_graph::sound::SoundGraph;
+use vertex_set::Sides;
+
+// How far the search has come: the page so far, and how many nodes were visited in vain.
+#[derive(Clone, Copy)]
+struct Progress {
+    pub page: Page,
+    pub idle: u64,
+}
 
 // The page with the chosen set of a node with nothing undecided, where that is a group and due.
-fn list_leaf(at: Node, k: u64, from: Bookmark, tally: Tally, out: &mut [u8]) -> Tally
-    ensures { AddsGroups from (leaf_items k from at) tally out.old result out.new }
+fn list_leaf(at: Node, k: u64, from: Bookmark, progress: Progress, out: &mut [u8]) -> Progress
+    ensures { AddsGroups from (leaf_items k from at) progress.page out.old result.page out.new }
 {
-    let left = at.left;
-    let right = at.right;
+    let chosen = Sides {
+        left: at.left.chosen,
+        right: at.right.chosen,
+    };
     if !nodes::is_group(at, k) {
-        return tally;
+        return progress;
     }
-    if !pages::is_due(from, left.chosen | right.chosen) {
-        return tally;
+    if !pages::is_due(from, chosen.left | chosen.right) {
+        return progress;
     }
-    group_pages::put_group(tally, left.chosen, right.chosen, out)
+    Progress {
+        page: group_pages::put_group(progress.page, chosen, out),
+        idle: 0,
+    }
 }
 
 // Whether a bookmark's set has, below v, exactly the vertices of `chosen`.
@@ -38,143 +54,95 @@ fn agrees_below(from: Bookmark, chosen: u64, v: usize) -> bool {
     }
 }
 
-// The page with the groups below a node that are due, in listing order, behind those that it has. The node goes as six numbers, the
-// chosen, the candidates and the excluded of the left and of the right: they stay in registers.
-fn list_below<'a>(
-    left_chosen: u64,
-    left_candidates: u64,
-    left_excluded: u64,
-    right_chosen: u64,
-    right_candidates: u64,
-    right_excluded: u64,
+// The node after propagation; the same node on the way to the bookmark, where propagation would be in vain.
+fn advance(at: Node, k: u64, from: Bookmark, v: usize, g: &SignedGraph) -> Option<Node>
+    ensures subset { IfSome result (λ node. Subset (nodes.undecided node) (nodes.undecided at)) }
+    ensures advances { Advances g.now.positive g.now.negative k at result }
+{
+    if agrees_below(from, at.left.chosen | at.right.chosen, v) {
+        return Some(at);
+    }
+    propagation::propagate(at, k, g)
+}
+
+// The page with the groups below a node that are due, in listing order, behind those that it has.
+// kept: k, from and g go along beside what changes; a struct of the three would serve this one function.
+fn list_below(
+    at: Node,
     k: u64,
     from: Bookmark,
-    positive: &'a [u64; 64],
-    negative: &'a [u64; 64],
-    tally: Tally,
+    g: &SignedGraph,
+    progress: Progress,
     out: &mut [u8],
-) -> Tally
-    ensures { Lists positive.now negative.now k from
-        (node_of left_chosen left_candidates left_excluded right_chosen right_candidates right_excluded) tally
-        out.old result out.new }
+) -> Progress
+    ensures { Lists g.now.positive g.now.negative k from at progress.page out.old result.page out.new }
 {
-    let at = nodes::node_of(
-        left_chosen,
-        left_candidates,
-        left_excluded,
-        right_chosen,
-        right_candidates,
-        right_excluded,
-    );
-    let next = vertex_set::lowest(left_candidates | right_candidates);
-    if pages::is_past(from, left_chosen | right_chosen, next) {
-        return tally;
+    let next = vertex_set::lowest(nodes::undecided(at));
+    if pages::is_past(from, at.left.chosen | at.right.chosen, next) {
+        return progress;
     }
-    let step = propagation::propagate_unless(
-        at,
-        agrees_below(from, left_chosen | right_chosen, next),
-        k,
-        positive,
-        negative,
-    );
-    if step.barren {
-        return tally;
-    }
-    let node = step.node;
+    let Some(node) = advance(at, k, from, next, g) else {
+        return progress;
+    };
     let open = nodes::undecided(node);
     if open == 0 {
-        return list_leaf(node, k, from, tally, out);
+        return list_leaf(node, k, from, progress, out);
     }
     let v = vertex_set::lowest(open);
-    let a = nodes::put_in(node, v, positive[v], negative[v]);
     let first = list_below(
-        a.left.chosen,
-        a.left.candidates,
-        a.left.excluded,
-        a.right.chosen,
-        a.right.candidates,
-        a.right.excluded,
+        nodes::put_in(node, v, g.partners(v)),
         k,
         from,
-        positive,
-        negative,
-        tally,
+        g,
+        progress,
         out,
     );
-    if first.more {
+    let End::Finished = first.page.end else {
         return first;
-    }
-    let b = nodes::leave_out(node, v);
-    let ahead = look_ahead::look_ahead(b, k, positive, negative, first.idle);
-    let rest = Tally {
-        count: first.count,
-        last: first.last,
-        more: first.more,
-        idle: ahead.count,
     };
-    if ahead.holds {
-        return rest;
+    let rest = nodes::leave_out(node, v);
+    match look_ahead::look_ahead(rest, k, g, first.idle) {
+        None => first,
+        Some(idle) => list_below(
+            rest,
+            k,
+            from,
+            g,
+            Progress {
+                page: first.page,
+                idle,
+            },
+            out,
+        ),
     }
-    list_below(
-        b.left.chosen,
-        b.left.candidates,
-        b.left.excluded,
-        b.right.chosen,
-        b.right.candidates,
-        b.right.excluded,
-        k,
-        from,
-        positive,
-        negative,
-        rest,
-        out,
-    )
 }
 
 // The page of a sound graph.
-fn list_sound(g: SignedGraph, k: u64, from: Bookmark, out: &mut [u8]) -> Page
-    requires { sound g ≡ true }
-    ensures { HoldsGroups from out.old (due_groups g k from) result out.new }
+fn list_sound(g: SoundGraph, k: u64, from: Bookmark, out: &mut [u8]) -> Page
+    ensures { HoldsGroups from out.old (due_groups g.entry.graph.now k from) result out.new }
 {
-    let empty = Tally {
-        count: 0,
-        last: 0,
-        more: false,
+    let root = nodes::root(signed_graph::vertices(*g.graph), g.graph);
+    let start = Progress {
+        page: Page::empty(from),
         idle: 0,
     };
-    let all = signed_graph::vertices(g);
-    let root = nodes::root(all, &g.positive, &g.negative);
-    let tally = list_below(
-        root.left.chosen,
-        root.left.candidates,
-        root.left.excluded,
-        root.right.chosen,
-        root.right.candidates,
-        root.right.excluded,
-        k,
-        from,
-        &g.positive,
-        &g.negative,
-        empty,
-        out,
-    );
-    pages::page_at(from, tally)
+    list_below(root, k, from, g.graph, start, out).page
 }
 
 // The records of the first groups for k that are due at a bookmark, as many as fit, at the front of `out`.
 pub fn list_page(g: SignedGraph, k: u64, from: Bookmark, out: &mut [u8]) -> Page
     ensures answer { result ≡ page_of g k from (length out.old) }
     ensures bytes { out.new ≡ page_bytes g k from out.old }
-    ensures number { check_number result.outcome ≡ refusal_number g k }
+    ensures number { answer_number result.outcome ≡ refusal_number g k }
     ensures values { page_values result ≡ page_values_of g k from (length out.old) }
 {
-    match signed_graph::check_call(g, k) {
-        Check::Refused(refusal) => Page {
-            outcome: Check::Refused(refusal),
+    match SoundGraph::check_call(&g, k) {
+        Ok(sound) => list_sound(sound, k, from, out),
+        Err(why) => Page {
+            outcome: Err(why),
             count: 0,
             next: from,
             end: End::More,
         },
-        Check::Accepted => list_sound(g, k, from, out),
     }
 }

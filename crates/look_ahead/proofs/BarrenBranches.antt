@@ -7,14 +7,16 @@ use mathlib.Core.Bool.{true, false}
 use borrow.Author.Tests.{not-true}
 use mathlib.Core.List.{List}
 use lib.ListN.{get_or}
-use Rattle.vertex_set.specs.Sets.{mem, lowest}
+use Rattle.vertex_set.specs.Sets.{mem}
+use Rattle.vertex_set.specs.Members.{TakesLowest}
 use Rattle.vertex_set.proofs.Booleans.{clash, cases}
 use Rattle.vertex_set.proofs.Membership.{mem_none, mem_past}
-use Rattle.vertex_set.proofs.LowestVertex.{rest}
 use Rattle.vertex_set.proofs.Traversals.{Traversal, traversal_begin, traversal_here, traversal_step}
 use Rattle.signed_graph.proofs.Soundness.{to_sound}
 use Rattle.signed_graph.specs.Thresholds.{Threshold}
 use Rattle.clique.proofs.Balance.{usable_64}
+use Rattle.signed_graph.specs.declared.Partners.{Partners}
+use Rattle.nodes.specs.declared.Side.{Side}
 use Rattle.nodes.specs.declared.Node.{Node}
 use Rattle.look_ahead.specs.declared.Fewest.{Fewest}
 use Rattle.nodes.specs.Nodes.{undecided, short, put_in, leave_out, Conflicts}
@@ -26,49 +28,33 @@ use Rattle.nodes.proofs.Prunes.{short_barren, required_left, required_right}
 
 -- ---- over the vertices that were left out
 
-module _ (positive negative : List ℕ) (excluded near far : ℕ) (start : Fewest) where
+module _ (positive negative : List ℕ) (near far : Side) (start : Fewest) where
   pub record Narrowing (left : ℕ) (found : Fewest) : Type 0 where
-    pub traversal : Traversal excluded left
-    pub from : FewestConflicts positive negative excluded near far start found
+    pub traversal : Traversal near.excluded left
+    pub from : FewestConflicts positive negative near far start found
 
-  pub narrowing_begin : excluded < 2 ^ 64 → Narrowing excluded start
-  narrowing_begin h = record { traversal = traversal_begin excluded h; from = λ e. inl e }
+  pub narrowing_begin : near.excluded < 2 ^ 64 → Narrowing near.excluded start
+  narrowing_begin h = record { traversal = traversal_begin near.excluded h; from = λ e. inl e }
 
-  pub narrowing_step : {left : ℕ} {found : Fewest} → Narrowing left found → 0 < left → (x against : ℕ) (next : Fewest) → x ≡ lowest left
-      → Conflicts near far (get_or positive x 0) (get_or negative x 0) against → SmallerOf found against next → Narrowing (rest left) next
-  narrowing_step {left} {found} h pos x against next is c fewer =
-      record { traversal = traversal_step h.traversal pos; from = λ e. go (fewer e) }
+  pub narrowing_step : {left x after : ℕ} {found : Fewest} → TakesLowest left x after → Narrowing left found
+      → (of : Partners) → of ≡ record { positive = get_or positive x 0; negative = get_or negative x 0 }
+      → (against : ℕ) → Conflicts near.candidates far.candidates of.positive of.negative against
+      → (next : Fewest) → SmallerOf found against next → Narrowing after next
+  narrowing_step {left} {x} {after} {found} t h of is-of against conflicts next fewer =
+      record { traversal = rw t.is_rest (traversal_step h.traversal t.some); from = λ e. go (fewer e) }
     where
-      go : (found.none ≡ true) ⊎ (against ≡ 0) → (start.none ≡ true) ⊎ FitsBesideAll positive negative excluded near far
+      c : Conflicts near.candidates far.candidates (get_or positive x 0) (get_or negative x 0) against
+      c = subst (λ (p : Partners). Conflicts near.candidates far.candidates p.positive p.negative against) is-of conflicts
+
+      go : (found.count ≡ 0) ⊎ (against ≡ 0) → (start.count ≡ 0) ⊎ FitsBesideAll positive negative near far
       go (inl e) = h.from e
       go (inr z) =
           inr (λ u. record {
             by = x;
-            out = ap (λ (y : ℕ). mem y excluded) is ∙ traversal_here h.traversal pos;
+            out = ap (λ (y : ℕ). mem y near.excluded) t.is_lowest ∙ traversal_here h.traversal t.some;
             same = λ w j _. c.same w j (ap (mem w) z ∙ mem_none w);
             cross = λ w j _. c.cross w j (ap (mem w) z ∙ mem_none w);
           })
-
--- over those of both sides
-pub narrowest_of : (positive negative : List ℕ) (d : Node) (start first r : Fewest) → start.none ≡ false
-    → FewestConflicts positive negative d.left.excluded d.left.candidates d.right.candidates start first
-    → FewestConflicts positive negative d.right.excluded d.right.candidates d.left.candidates first r
-    → Narrowest positive negative d r
-narrowest_of positive negative d start first r known a b e = second (b e)
-  where
-    OnLeft : Type 0
-    OnLeft = FitsBesideAll positive negative d.left.excluded d.left.candidates d.right.candidates
-
-    OnRight : Type 0
-    OnRight = FitsBesideAll positive negative d.right.excluded d.right.candidates d.left.candidates
-
-    initial : (start.none ≡ true) ⊎ OnLeft → OnLeft ⊎ OnRight
-    initial (inl i) = clash start.none i known
-    initial (inr u) = inl u
-
-    second : (first.none ≡ true) ⊎ OnRight → OnLeft ⊎ OnRight
-    second (inl i) = initial (a i)
-    second (inr u) = inr u
 
 -- ---- a node
 
@@ -78,15 +64,14 @@ module _ (positive negative : List ℕ) (k : Threshold) (d : Node) where
   finds_short e _ any so va = short_barren _ (to_sound _ so) k d (not-true _ e)
 
   -- a vertex that was left out fits beside every candidate
-  pub finds_narrow : (r : Fewest) → Narrowest positive negative d r → r.none ≡ true → FindsBarren positive negative k d true
+  pub finds_narrow : (r : Fewest) → Narrowest positive negative d r → r.count ≡ 0 → FindsBarren positive negative k d true
   finds_narrow r narrow e _ any so va x lx b = go (narrow e)
     where
       -- no group has a vertex 64
       none : mem 64 x.vertices ≡ true → ⊥
       none m = clash (mem 64 x.vertices) m (mem_past 64 64 x.vertices (usable_64 _ (to_sound _ so) x.vertices lx.group.balanced.usable) (omega arith))
 
-      go : FitsBesideAll positive negative d.left.excluded d.left.candidates d.right.candidates
-          ⊎ FitsBesideAll positive negative d.right.excluded d.right.candidates d.left.candidates → ⊥
+      go : FitsBesideAll positive negative d.left d.right ⊎ FitsBesideAll positive negative d.right d.left → ⊥
       go (inl u) = none (required_left _ (to_sound _ so) k d va 64 x lx b (u 64))
       go (inr u) = none (required_right _ (to_sound _ so) k d va 64 x lx b (u 64))
 
@@ -95,18 +80,18 @@ module _ (positive negative : List ℕ) (k : Threshold) (d : Node) where
     first : d.left.chosen ≡ 0 → (p : ℕ) → mem p (undecided d) ≡ true → u ≤ p
     first z p m = absurd (some z)
 
-    pub finds_both : (in-child out-child : Node) → in-child ≡ put_in d u (get_or positive u 0) (get_or negative u 0)
+    pub finds_both : (of : Partners) → of ≡ record { positive = get_or positive u 0; negative = get_or negative u 0 }
+        → (in-child out-child : Node) → in-child ≡ put_in d u of.positive of.negative
         → out-child ≡ leave_out d u → FindsBarren positive negative k in-child true → FindsBarren positive negative k out-child true
         → FindsBarren positive negative k d true
-    finds_both in-child out-child is-in is-out a b _ any so va x lx below =
+    finds_both of is-of in-child out-child is-in is-out a b _ any so va x lx below =
         let s = to_sound _ so in
-        let in_v = subst (λ (e : Node). FindsBarren positive negative k e true) is-in a in
+        let in_v =
+        subst (λ (e : Node). FindsBarren positive negative k e true)
+        (is-in ∙ ap (λ (p : Partners). put_in d u p.positive p.negative) is-of) a in
         let out_v = subst (λ (e : Node). FindsBarren positive negative k e true) is-out b in
         cases ⊥ (mem u x.vertices)
         (λ m. in_v refl any so (put_valid _ s u h.small d va first h.here) x lx
         (below_put _ s k d va u h.small h.here first x lx below m))
         (λ m. out_v refl any so (out_valid _ s u h.small d va) x lx
         (below_out _ s k d va u h.small h.here first x lx below m))
-
-pub no_claim : (positive negative : List ℕ) (k : Threshold) (d : Node) → FindsBarren positive negative k d false
-no_claim positive negative k d e = clash false e refl

@@ -1,4 +1,6 @@
-// The static library for C, C++ and Rust: each function of `mastpickle` under its C name, with its clauses. include/mastpickle.h says how it is used.
+// The static library for C, C++ and Rust: each function of `mastpickle` under its C name, with its clauses. include/mastpickle.h
+// says how it is used.
+// kept: each function is that of `mastpickle` once more, by the C interface: a static library exports its own functions alone.
 #![tactic(auto)]
 
 ghost use Rattle.std.specs.Prelude.{◌≡◌};

@@ -5,15 +5,15 @@ use native.Mathlib.Omega.{arith}
 use native.Mathlib.Decide.{ℕ_discrete}
 use mathlib.Core.Path.{◌≡◌, sym, ap, ap₂, ◌∙◌, subst}
 use mathlib.Core.Logic.{◌⊎◌, inl, inr}
-use mathlib.Core.Bool.{Bool, true, false, ◌&&◌}
+use mathlib.Core.Bool.{Bool, true, false}
 use mathlib.Core.List.Memᴰ
 use mathlib.Core.List.{List, [], ◌∷◌, Memᴰ}
 use lib.Dec.{eqb}
 use lib.Bits.{bit_or}
-use borrow.Author.Tests.{eqb-true, eq-eqb, ne_eqb}
+use borrow.Author.Tests.{eqb-true, eq-eqb}
 use Rattle.vertex_set.specs.Lists.{Sorted}
 use Rattle.vertex_set.specs.Sets.{mem, Subset, insert, size, lowest}
-use Rattle.vertex_set.proofs.Booleans.{clash, refute, iff, and_intro, and_left, and_right, fails_left, or_cases}
+use Rattle.vertex_set.proofs.Booleans.{clash, refute, iff, and_intro, and_left, and_right, or_cases}
 use Rattle.vertex_set.proofs.Membership.{mem_none, none_in, mem_or, union_left, union_right, union_cases, set_ext}
 use Rattle.vertex_set.proofs.Collections.{insert_in}
 use Rattle.vertex_set.proofs.LowestVertex.{lowest_is, lowest_in}
@@ -43,14 +43,6 @@ module _ (k : Threshold) (d : Node) where
 
   abbrev large : Bool
   large = floor k (size d.left.chosen) (size d.right.chosen)
-
-  pub not_extended : (excluded d ≡ 0 → ⊥) → group_at k d ≡ false
-  unfolding group_at
-  not_extended e = fails_left unextended large (ne_eqb (excluded d) 0 e)
-
-  pub large_group : excluded d ≡ 0 → group_at k d ≡ floor k (size d.left.chosen) (size d.right.chosen)
-  unfolding group_at
-  large_group e = ap (λ (b : Bool). b && large) (eq-eqb (excluded d) 0 e)
 
 module _ (g : SignedGraph) (so : Sound g) (k : Threshold) (d : Node) (h : Valid g d) (done : undecided d ≡ 0) where
   -- ---- nothing is undecided

@@ -5,10 +5,10 @@ use mathlib.Core.Bool.{true, false, not, ◌&&◌, ◌||◌}
 use mathlib.Core.List.{List}
 use lib.ListN.{get_or}
 use lib.Bits.{bit_and, bit_or}
-use Rattle.vertex_set.specs.Sets.{mem, Subset, lowest}
+use Rattle.vertex_set.specs.Sets.{mem, Subset}
 use Rattle.vertex_set.proofs.Booleans.{clash, cases, and_intro, fails_right, or_left, or_right, or_cases}
 use Rattle.vertex_set.proofs.Membership.{mem_none, none_in, mem_minus, meet_in, meet_left, meet_right, union_left, union_right}
-use Rattle.vertex_set.proofs.LowestVertex.{rest}
+use Rattle.vertex_set.specs.Members.{TakesLowest}
 use Rattle.vertex_set.proofs.SizeBounds.{another}
 use Rattle.vertex_set.proofs.Traversals.{Traversal, traversal_begin, traversal_step, gone}
 use Rattle.signed_graph.specs.declared.SignedGraph.{SignedGraph}
@@ -20,8 +20,7 @@ use Rattle.clique.proofs.Balance.{usable_64}
 use Rattle.clique.proofs.Groups.{group_two}
 use Rattle.clique.proofs.Listing.{listed_left, listed_right}
 use Rattle.nodes.specs.declared.Side.{Side}
-use Rattle.nodes.specs.declared.Node.{Node}
-use Rattle.nodes.specs.Nodes.{node_of, CanJoin, Half, untouched, Between, Root, HasPartners}
+use Rattle.nodes.specs.Nodes.{CanJoin, Half, untouched, Between, Root, HasPartners}
 
 -- ---- partners of the vertices that were gone through
 
@@ -34,15 +33,15 @@ module _ (positive negative : List ℕ) (s : ℕ) where
   pub gathered_begin : s < 2 ^ 64 → Gathered s 0
   gathered_begin h = record { traversal = traversal_begin s h; has = λ p q m off e. clash (mem p s) m off }
 
-  pub gathered_step : {left found : ℕ} → Gathered left found → 0 < left → (x : ℕ) → x ≡ lowest left
-      → Gathered (rest left) (bit_or (bit_or found (get_or positive x 0)) (get_or negative x 0))
-  gathered_step {left} {found} h pos x is =
+  pub gathered_step : {left found x after : ℕ} → TakesLowest left x after → Gathered left found
+      → Gathered after (bit_or (bit_or found (get_or positive x 0)) (get_or negative x 0))
+  gathered_step {found = found} {x = x} takes h =
       record {
-        traversal = traversal_step h.traversal pos;
+        traversal = rw takes.is_rest (traversal_step h.traversal takes.some);
         has = λ p q m off e.
-            gone h.traversal pos p off
+            gone h.traversal takes.some p (ap (mem p) (sym takes.is_rest) ∙ off)
             (λ here.
-            let same : p ≡ x = here ∙ sym is in
+            let same : p ≡ x = here ∙ sym takes.is_lowest in
             or_cases _ (mem q (get_or positive p 0)) (mem q (get_or negative p 0)) e
             (λ i. union_left q (bit_or found (get_or positive x 0)) _ (union_right q found _ (rw same at i)))
             (λ i. union_right q (bit_or found (get_or positive x 0)) _ (rw same at i)))
@@ -112,10 +111,11 @@ module _ (g : SignedGraph) (so : Sound g) (joined : ℕ) (fits : joined < 2 ^ 64
 
 -- of the vertices, those that have partners are candidates, and the others are left out
 pub root_of : (g : SignedGraph) → Sound g → (all joined : ℕ) → joined < 2 ^ 64 → all ≡ vertices g
-    → HasPartners g.positive g.negative all joined → (d : Node)
-    → (let candidates = bit_and all joined in
-    let out = bit_and all ((2 ^ 64 - 1) - joined) in d ≡ node_of 0 candidates out 0 candidates out) → Root g d
-root_of g so all joined fits is h d e =
-    subst (Root g)
-    (sym (e ∙ ap (λ (a : ℕ). let c = bit_and a joined in let o = bit_and a ((2 ^ 64 - 1) - joined) in node_of 0 c o 0 c o) is))
-    (root_is g so joined fits (subst (λ (a : ℕ). HasPartners g.positive g.negative a joined) is h))
+    → HasPartners g.positive g.negative all joined
+    → (let s : Side = record { chosen = 0; candidates = bit_and all joined; excluded = bit_and all ((2 ^ 64 - 1) - joined) } in
+    Root g (record { left = s; right = s }))
+root_of g so all joined fits is h =
+    subst
+    (λ (a : ℕ). let s : Side = record { chosen = 0; candidates = bit_and a joined; excluded = bit_and a ((2 ^ 64 - 1) - joined) } in
+    Root g (record { left = s; right = s }))
+    (sym is) (root_is g so joined fits (subst (λ (a : ℕ). HasPartners g.positive g.negative a joined) is h))

@@ -49,14 +49,6 @@ passed_over s v =
       excluded = bit_or s.excluded (bit_and s.candidates (single v));
     }
 
--- the node with these chosen, candidates and excluded of the left and of the right
-abbrev pub node_of : ℕ → ℕ → ℕ → ℕ → ℕ → ℕ → Node
-node_of left-chosen left-candidates left-excluded right-chosen right-candidates right-excluded =
-    record {
-      left = record { chosen = left-chosen; candidates = left-candidates; excluded = left-excluded };
-      right = record { chosen = right-chosen; candidates = right-candidates; excluded = right-excluded };
-    }
-
 -- v, which has these positive and negative partners, goes to the left; to the right; where it may
 abbrev pub put_left : Node → ℕ → ℕ → ℕ → Node
 put_left d v positive negative =

@@ -1,11 +1,14 @@
 // Nodes of the search for groups: the sides so far, and how they grow.
+// kept: over SoundGraph this crate's contracts would ask more: they speak of every sound graph with two tables (`ForSound`).
 #![tactic(auto)]
 
 ghost use Rattle.std.specs.Prelude.{◌≡◌, true};
 ghost use Rattle.nodes.specs.Nodes as nodes;
 ghost use Rattle.signed_graph.specs.Graphs.{vertices};
 ghost use Rattle.signed_graph.specs.Tables.{ForSound};
-ghost use Rattle.nodes.specs.Nodes.{Conflicts, node_of, narrowed, side_with, passed_over, put_in, leave_out, short, group_at, HasPartners, Root};
+ghost use Rattle.nodes.specs.Nodes.{Conflicts, narrowed, side_with, passed_over, put_in, leave_out, short, group_at, HasPartners, Root};
+
+use signed_graph::{Partners, SignedGraph};
 
 // A side of the groups that a node of the search stands for: the vertices that all of them hold, those that are undecided and
 // may still join it, and those left out that would still fit.
@@ -30,56 +33,58 @@ pub fn undecided(at: Node) -> u64
     at.left.candidates | at.right.candidates
 }
 
-// A side once v is chosen, `row` being the partners of v that may be on it.
-fn narrow(side: Side, v: usize, row: u64) -> Side
-    ensures { result ≡ narrowed side v row }
-{
-    let others = !vertex_set::single(v);
-    Side {
-        chosen: side.chosen,
-        candidates: side.candidates & row & others,
-        excluded: side.excluded & row,
+impl Side {
+    // The side once v is chosen, `row` being the partners of v that may be on it.
+    fn narrow(self, v: usize, row: u64) -> Side
+        ensures { result ≡ narrowed self v row }
+    {
+        let others = !vertex_set::single(v);
+        Side {
+            candidates: self.candidates & row & others,
+            excluded: self.excluded & row,
+            ..self
+        }
     }
-}
 
-// A side with v on it.
-fn join(side: Side, v: usize) -> Side
-    ensures { result ≡ side_with side v }
-{
-    Side {
-        chosen: side.chosen | vertex_set::single(v),
-        candidates: side.candidates,
-        excluded: side.excluded,
+    // The side with v on it.
+    fn join(self, v: usize) -> Side
+        ensures { result ≡ side_with self v }
+    {
+        Side {
+            chosen: self.chosen | vertex_set::single(v),
+            ..self
+        }
     }
-}
 
-// A side once v is left out.
-fn pass_over(side: Side, v: usize) -> Side
-    ensures { result ≡ passed_over side v }
-{
-    let alone = vertex_set::single(v);
-    Side {
-        chosen: side.chosen,
-        candidates: side.candidates & !alone,
-        excluded: side.excluded | (side.candidates & alone),
+    // The side once v is left out.
+    fn pass_over(self, v: usize) -> Side
+        ensures { result ≡ passed_over self v }
+    {
+        let alone = vertex_set::single(v);
+        Side {
+            candidates: self.candidates & !alone,
+            excluded: self.excluded | (self.candidates & alone),
+            ..self
+        }
     }
 }
 
 // The node with v, whose partners these are, on the side that it may join.
-pub fn put_in(at: Node, v: usize, positive: u64, negative: u64) -> Node
-    ensures { result ≡ put_in at v positive negative }
+#[tactic(auto, unfolding(crate::specs::Nodes::put_in))]
+pub fn put_in(at: Node, v: usize, of: Partners) -> Node
+    ensures { result ≡ put_in at v of.positive of.negative }
 {
     let left = at.left;
     let right = at.right;
     if vertex_set::contains(left.candidates, v) {
         Node {
-            left: join(narrow(left, v, positive), v),
-            right: narrow(right, v, negative),
+            left: left.narrow(v, of.positive).join(v),
+            right: right.narrow(v, of.negative),
         }
     } else {
         Node {
-            left: narrow(left, v, negative),
-            right: join(narrow(right, v, positive), v),
+            left: left.narrow(v, of.negative),
+            right: right.narrow(v, of.positive).join(v),
         }
     }
 }
@@ -89,12 +94,13 @@ pub fn leave_out(at: Node, v: usize) -> Node
     ensures { result ≡ leave_out at v }
 {
     Node {
-        left: pass_over(at.left, v),
-        right: pass_over(at.right, v),
+        left: at.left.pass_over(v),
+        right: at.right.pass_over(v),
     }
 }
 
 // True only where the sides are too small for threshold k, even with all their candidates. For k = 0 nothing is looked at.
+#[tactic(auto, unfolding(crate::specs::Nodes::short))]
 pub fn is_short(at: Node, k: u64) -> bool
     ensures { result ≡ true → short k at ≡ true }
 {
@@ -111,6 +117,7 @@ pub fn is_short(at: Node, k: u64) -> bool
 }
 
 // Whether the chosen set of a node with nothing undecided is a group for k.
+#[tactic(auto, unfolding(crate::specs::Nodes::group_at))]
 pub fn is_group(at: Node, k: u64) -> bool
     ensures { result ≡ group_at k at }
 {
@@ -122,58 +129,38 @@ pub fn is_group(at: Node, k: u64) -> bool
     clique::large_enough(k, left.chosen, right.chosen)
 }
 
-// The node whose sides have these.
-pub fn node_of(
-    left_chosen: u64,
-    left_candidates: u64,
-    left_excluded: u64,
-    right_chosen: u64,
-    right_candidates: u64,
-    right_excluded: u64,
-) -> Node
-    ensures { result ≡ node_of left_chosen left_candidates left_excluded right_chosen right_candidates right_excluded }
-{
-    Node {
-        left: Side {
-            chosen: left_chosen,
-            candidates: left_candidates,
-            excluded: left_excluded,
-        },
-        right: Side {
-            chosen: right_chosen,
-            candidates: right_candidates,
-            excluded: right_excluded,
-        },
-    }
-}
-
 // The partners of the vertices of s, or more.
-fn partners<'a>(s: u64, positive: &'a [u64; 64], negative: &'a [u64; 64]) -> u64
-    ensures { HasPartners positive.now negative.now s result }
+fn partners(s: u64, g: &SignedGraph) -> u64
+    ensures { HasPartners g.now.positive g.now.negative s result }
 {
     let mut found: u64 = 0;
-    let mut left = s;
-    while left != 0 {
-        let p = vertex_set::lowest(left);
-        found = found | positive[p] | negative[p];
-        left = left & (left - 1);
+    for p in vertex_set::members(s) {
+        found = found | g.positive[p] | g.negative[p];
     }
     found
 }
 
 // Where the search starts, of all vertices: below this node are all groups. A vertex without an edge is in none, and is left out.
-pub fn root<'a>(all: u64, positive: &'a [u64; 64], negative: &'a [u64; 64]) -> Node
-    ensures { ForSound positive.now negative.now (λ g. all ≡ vertices g → Root g result) }
+pub fn root(all: u64, g: &SignedGraph) -> Node
+    ensures { ForSound g.now.positive g.now.negative (λ h. all ≡ vertices h → Root h result) }
 {
-    let joined = partners(all, positive, negative);
-    let candidates = all & joined;
-    let excluded = all & !joined;
-    node_of(0, candidates, excluded, 0, candidates, excluded)
+    let joined = partners(all, g);
+    let side = Side {
+        chosen: 0,
+        candidates: all & joined,
+        excluded: all & !joined,
+    };
+    Node {
+        left: side,
+        right: side,
+    }
 }
 
 // The candidates that a vertex with these partners does not fit beside.
-pub fn conflicts(near: u64, far: u64, positive: u64, negative: u64) -> u64
-    ensures { Conflicts near far positive negative result }
+// kept: near and far: which of them is left depends on the caller.
+#[tactic(auto, using(crate::proofs::ConflictSets::conflicts_are))]
+pub fn conflicts(near: u64, far: u64, of: Partners) -> u64
+    ensures { Conflicts near far of.positive of.negative result }
 {
-    (near & !positive) | (far & !negative)
+    (near & !of.positive) | (far & !of.negative)
 }

@@ -13,8 +13,7 @@ use Rattle.vertex_set.specs.Sets as S
 use Rattle.signed_graph.specs.declared.SignedGraph.{SignedGraph}
 use Rattle.signed_graph.specs.Graphs.{edgeless}
 use Rattle.signed_graph.specs.Samples.{sample_a, masked_a}
-use Rattle.signed_graph.specs.Calls.{check_by}
-use Rattle.signed_graph.specs.declared.Check.{Check}
+use Rattle.signed_graph.specs.Calls.{Check, check_by}
 use Rattle.clique.specs.Balance.{left, right}
 use Rattle.clique.specs.Listing.{Item, item_of, listing}
 use Rattle.clique.proofs.Cases.{cases_groups}
@@ -24,7 +23,7 @@ use Rattle.commands.specs.Steps.{command_step, step_by, edge_step, mask_step, co
 use Rattle.edge_list.specs.Decoding.{decoded, decoded_edges, decoded_from}
 use Rattle.edge_list.proofs.Answers.{accepted_words, accepted_sound}
 use Rattle.edge_list.proofs.Cases.{list_a, list_masked_a, list_amended_a, list_t2, decodes}
-use Rattle.decimals.specs.Decimals.{digits, decimal}
+use Rattle.std.specs.Fmt.{digits}
 use Rattle.report.specs.Lines.{
   preceded,
   spaced,
@@ -118,7 +117,7 @@ listed {list} {g} w k l h e =
     (ap₂ check_by (accepted_sound w) (le-leb k 32 h)) e
 
 pub cases_outputs : Outputs
-unfolding decoded decoded_edges decoded_from command_step step_by edge_step mask_step command_of any listing left right groups_text largest_of printed R.gather R.seek R.count S.mem S.collect S.lowest S.size S.over_members digits decimal preceded spaced line_of vertex_words group_words group_line largest_line none_line count_line refusal_line fault_line
+unfolding decoded decoded_edges decoded_from command_step step_by edge_step mask_step command_of any listing left right groups_text largest_of printed R.gather R.seek R.count S.mem S.collect S.lowest S.size S.over_members digits preceded spaced line_of vertex_words group_words group_line largest_line none_line count_line refusal_line fault_line
 cases_outputs =
     record {
       T2 = listed list_T2 0 _ (omega arith) (ap (map (item_of (edgeless 1))) (cases_groups.T2 0));

@@ -1,76 +1,67 @@
 -- What is due and what is printed, by the words for an edge list and for its faults. Assumes nothing.
-use Prim.Native.Nat.{ℕ, ◌≤◌, ◌<◌}
-use native.Mathlib.Omega.{arith}
-use mathlib.Core.Path.{◌≡◌, refl, sym, ap, ap₂, ◌∙◌, subst}
-use mathlib.Core.List.{List, ◌∷◌, ◌++◌}
-use lib.ListN.{length}
+use Rattle.std.specs.Prelude.{Result, Ok, Err}
+use Rattle.std.proofs.Common.{◌≡◌, ℕ, ◌≤◌, ◌<◌, List, ◌∷◌, ◌++◌, length, refl, ap, ap₂, ◌∙◌, subst}
 use borrow.Author.Tests.{le-leb, lt-leb}
 use Rattle.signed_graph.specs.declared.SignedGraph.{SignedGraph}
-use Rattle.signed_graph.specs.declared.Check.{Check}
-use Rattle.signed_graph.specs.declared.Check.TheVariants as check
 use Rattle.signed_graph.specs.declared.Refusal.TheVariants.{ThresholdTooLarge}
-use Rattle.signed_graph.specs.Calls.{check_by, check_of}
+use Rattle.signed_graph.specs.Calls.{Check, passed, check_by, check_of}
 use Rattle.clique.specs.Listing.{listing}
 use Rattle.largest.specs.Largest.{largest_group}
 use Rattle.commands.specs.declared.Fault.{Fault}
-use Rattle.commands.specs.declared.Outcome.{Outcome}
-use Rattle.commands.specs.declared.Outcome.TheVariants as outcome
-use Rattle.commands.specs.declared.Decoded.{Decoded}
 use Rattle.commands.specs.Faults.{fault_number, fault_place}
 use Rattle.edge_list.specs.Faults.{FaultIn}
 use Rattle.edge_list.specs.Decoding.{decoded}
 use Rattle.edge_list.specs.Acceptance.{ListOf}
 use Rattle.edge_list.proofs.Answers.{words_accepted, words_refused, accepted_sound}
+use Rattle.report.specs.declared.Line.{Line}
 use Rattle.report.specs.Lines.{line_text, count_line, refusal_line, fault_line}
-use Rattle.output.specs.declared.Answer.TheVariants.{Groups}
 use Rattle.output.specs.declared.Due.{Due}
 use Rattle.output.specs.Output.{
   input_list,
-  call_answer,
-  answer_by,
+  due_by,
   due_of,
   due_for,
   groups_text,
   line_of_largest,
-  closing_by,
-  listing_text,
-  closing_text,
   printed_of,
   printed,
 }
 
 -- ---- where groups are due, the call's check accepts
 
-checked : (o : Outcome) (c : Check) → answer_by o c ≡ Groups → c ≡ check.Accepted
-checked (outcome.Refused f) c e = let z : ◌≡◌ {A = ℕ} 0 1 = cc in absurd (omega arith)
-checked outcome.Accepted (check.Refused why) e = let z : ◌≡◌ {A = ℕ} 0 1 = cc in absurd (omega arith)
-checked outcome.Accepted check.Accepted e = refl
+checked_by : (c : Check) (g : SignedGraph) (k : ℕ) (d : Due) → check_of g k ≡ c → due_by c g k ≡ Ok d → check_of d.graph d.threshold ≡ passed
+checked_by (Err why) g k d is e = cc
+checked_by (Ok x) g k d is e =
+    let same : ◌≡◌ {A = Due} (record { graph = g; threshold = k }) d = cc in
+    subst (λ (y : Due). check_of y.graph y.threshold ≡ passed) same is
 
-pub due_checked : (input : List ℕ) (d : Due) → d ≡ due_for input → d.answer ≡ Groups → check_of d.graph d.threshold ≡ check.Accepted
-due_checked input d e = subst (λ (x : Due). x.answer ≡ Groups → check_of x.graph x.threshold ≡ check.Accepted) (sym e)
-    (checked (decoded (input_list input)).outcome _)
+checked : (r : Result SignedGraph Fault) (k : ℕ) (d : Due) → due_of r k ≡ Ok d → check_of d.graph d.threshold ≡ passed
+checked (Err f) k d e = cc
+checked (Ok g) k d e = checked_by (check_of g k) g k d refl e
+
+pub due_checked : (input : List ℕ) (d : Due) → due_for input ≡ Ok d → check_of d.graph d.threshold ≡ passed
+due_checked input d e = checked (decoded (input_list input)) _ d e
 
 -- ---- what is printed
 
 -- a list with a fault: the line of the fault and nothing else, whatever the threshold is
 pub fault_printed : (k : ℕ) (list : List ℕ) (f : Fault) → FaultIn list f → printed (k ∷ list) ≡ fault_line (fault_number f) (fault_place f)
 unfolding printed
-fault_printed k list f w = ap (λ (d : Decoded). printed_of (due_of d k)) (words_refused list f w)
+fault_printed k list f w = ap (λ (r : Result SignedGraph Fault). printed_of (due_of r k)) (words_refused list f w)
 
 -- an edge list of g
 module _ (k : ℕ) (list : List ℕ) (g : SignedGraph) (w : ListOf list g) where
-  of_check : (c : Check) → check_of g k ≡ c
-      → printed (k ∷ list) ≡ listing_text (call_answer c) g k ++ closing_text (closing_by (call_answer c) g k)
+  of_check : (c : Check) → check_of g k ≡ c → printed (k ∷ list) ≡ printed_of (due_by c g k)
   unfolding printed
   of_check c e =
-      ap (λ (d : Decoded). printed_of (due_of d k)) (words_accepted list g w)
-      ∙ ap (λ (x : Check). listing_text (call_answer x) g k ++ closing_text (closing_by (call_answer x) g k)) e
+      ap (λ (r : Result SignedGraph Fault). printed_of (due_of r k)) (words_accepted list g w)
+      ∙ ap (λ (x : Check). printed_of (due_by x g k)) e
 
   -- and a threshold over 32
   pub threshold_printed : 32 < k → printed (k ∷ list) ≡ refusal_line 11
-  threshold_printed h = of_check (check.Refused ThresholdTooLarge) (ap₂ check_by (accepted_sound w) (lt-leb k 32 h))
+  threshold_printed h = of_check (Err ThresholdTooLarge) (ap₂ check_by (accepted_sound w) (lt-leb k 32 h))
 
   -- and a threshold of at most 32: the groups, the largest, and how many there are
   pub groups_printed : k ≤ 32
       → printed (k ∷ list) ≡ groups_text (listing g k) ++ (line_text (line_of_largest (largest_group g k)) ++ count_line (length (listing g k)))
-  groups_printed h = of_check check.Accepted (ap₂ check_by (accepted_sound w) (le-leb k 32 h))
+  groups_printed h = of_check passed (ap₂ check_by (accepted_sound w) (le-leb k 32 h))

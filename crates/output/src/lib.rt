@@ -4,114 +4,57 @@
 ghost use Rattle.std.specs.Prelude.{◌≡◌};
 ghost use Rattle.edge_list.specs.Decoding.{decoded};
 ghost use Rattle.largest.specs.Largest.{largest_group};
-ghost use Rattle.output.specs.Output.{line_of_fault, line_of_refusal, list_answer, call_answer, line_of_largest, due_of, due_for, closing_lines};
+ghost use Rattle.output.specs.Output.{line_of_largest, due_of, due_for, closing_lines};
 
-use commands::{Fault, Outcome};
 use report::Line;
-use signed_graph::{Check, Refusal, SignedGraph};
+use signed_graph::SignedGraph;
 
-// Whether an input is refused, and with which line.
-#[derive(Clone, Copy)]
-pub enum Answer {
-    Refused(Line),
-    Groups,
-}
-
-// What is due for an input: a refusal, or the groups of a graph for a threshold.
+// A graph whose groups are due, and the threshold.
 #[derive(Clone, Copy)]
 pub struct Due {
-    pub answer: Answer,
     pub graph: SignedGraph,
     pub threshold: u64,
 }
 
 // The lines behind the groups.
 #[derive(Clone, Copy)]
-pub enum Closing {
-    // The line of a refusal, alone.
-    Refused(Line),
-    // The largest group, and how many groups there are.
-    Lines(Line, Line),
+pub struct Closing {
+    pub largest: Line,
+    // How many groups there are.
+    pub count: Line,
 }
 
-// The line of a refused list.
-fn fault_line(fault: Fault) -> Line
-    ensures { result ≡ line_of_fault fault }
-{
-    Line::Fault(fault.number(), fault.place())
-}
-
-// The line of a refused call.
-fn refusal_line(why: Refusal) -> Line
-    ensures { result ≡ line_of_refusal why }
-{
-    Line::Refusal(why.number())
-}
-
-// The answer by the outcome of the list.
-fn list_answer(outcome: Outcome) -> Answer
-    ensures { result ≡ list_answer outcome }
-{
-    match outcome {
-        Outcome::Accepted => Answer::Groups,
-        Outcome::Refused(fault) => Answer::Refused(fault_line(fault)),
-    }
-}
-
-// The answer by the check of the threshold.
-fn call_answer(checked: Check) -> Answer
-    ensures { result ≡ call_answer checked }
-{
-    match checked {
-        Check::Accepted => Answer::Groups,
-        Check::Refused(why) => Answer::Refused(refusal_line(why)),
-    }
-}
-
-// What is due for a threshold and a list.
-fn due_of(threshold: u64, list: &[u8]) -> Due
+// What is due for a threshold and a list, or the line of the refusal.
+// kept: document 01 names let .. else for this place.
+fn due_of(threshold: u64, list: &[u8]) -> Result<Due, Line>
     ensures { result ≡ due_of (decoded list.now) threshold }
 {
-    let decoded = edge_list::decode(list);
-    let outcome = decoded.outcome;
-    let graph = decoded.graph;
-    let Outcome::Accepted = outcome else {
-        let answer = list_answer(outcome);
-        return Due {
-            answer,
-            graph,
-            threshold,
-        };
+    let answer = edge_list::decode(list);
+    let Ok(graph) = answer else {
+        return Err(Line::Fault(answer.unwrap_err()));
     };
-    let answer = call_answer(signed_graph::check_call(graph, threshold));
-    Due {
-        answer,
-        graph,
-        threshold,
-    }
+    signed_graph::check_call(graph, threshold).map_err(Line::Refusal)?;
+    Ok(Due { graph, threshold })
 }
 
 // What is due for an input: its first byte is the threshold, and a list follows. An empty input is the threshold 0 and an
 // empty list.
-pub fn due_for(input: &[u8]) -> Due
+pub fn due_for(input: &[u8]) -> Result<Due, Line>
     ensures { result ≡ due_for input.now }
 {
-    if input.len() == 0 {
-        return due_of(0, input);
+    match input.split_first() {
+        Some((threshold, list)) => due_of(u64::from(*threshold), list),
+        None => due_of(0, input),
     }
-    let start: usize = 1;
-    due_of(input[0] as u64, &input[start..])
 }
 
 // The line of the largest group, or that there is none.
 fn largest_line(g: SignedGraph, k: u64) -> Line
     ensures { result ≡ line_of_largest (largest_group g k) }
 {
-    let largest = largest::largest(g, k);
-    let outcome = largest.outcome;
-    match outcome {
-        Check::Accepted => Line::Largest(largest.left, largest.right),
-        Check::Refused(_) => Line::NoLargest,
+    match largest::largest(g, k) {
+        Ok(sides) => Line::Largest(sides),
+        Err(_) => Line::NoLargest,
     }
 }
 
@@ -119,5 +62,8 @@ fn largest_line(g: SignedGraph, k: u64) -> Line
 pub fn closing_lines(g: SignedGraph, k: u64, count: u64) -> Closing
     ensures { result ≡ closing_lines g k count }
 {
-    Closing::Lines(largest_line(g, k), Line::Count(count))
+    Closing {
+        largest: largest_line(g, k),
+        count: Line::Count(count),
+    }
 }

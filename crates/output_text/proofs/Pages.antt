@@ -5,10 +5,10 @@ use native.Mathlib.Omega.{arith}
 use mathlib.Core.Path.{◌≡◌, refl, sym, ap, ap₂, ◌∙◌}
 use mathlib.Core.List.{List, [], ◌∷◌, ◌++◌, append_assoc, append-nil}
 use lib.ListN.{length, take}
+use Rattle.std.specs.Prelude.{Result, Ok}
+use Rattle.report.specs.declared.Line.{Line}
 use Rattle.signed_graph.specs.declared.SignedGraph.{SignedGraph}
-use Rattle.signed_graph.specs.declared.Check.{Check}
-use Rattle.signed_graph.specs.declared.Check.TheVariants.{Accepted}
-use Rattle.signed_graph.specs.Calls.{check_of}
+use Rattle.signed_graph.specs.Calls.{Check, passed, check_of}
 use Rattle.clique.specs.Listing.{Item, listing}
 use Rattle.pages.specs.declared.Bookmark.{Bookmark}
 use Rattle.pages.specs.declared.Bookmark.TheVariants.{Start}
@@ -19,9 +19,8 @@ use Rattle.pages.specs.Pages.{due}
 use Rattle.group_pages.specs.Calls.{due_groups, page_of}
 use Rattle.group_pages.proofs.Walks.{page_due, page_last, page_fewer}
 use Rattle.report.specs.Lines.{group_line}
-use Rattle.output.specs.declared.Answer.{Answer}
-use Rattle.output.specs.declared.Answer.TheVariants.{Groups}
-use Rattle.output.specs.Output.{due_for, groups_text, listing_text, closing_text, closing_for, printed}
+use Rattle.output.specs.declared.Due.{Due}
+use Rattle.output.specs.Output.{due_for, groups_text, closing_text, closing_of, closing_for, printed_of, printed}
 use Rattle.output.proofs.Printed.{due_checked}
 use Rattle.output_text.specs.PageTexts.{page_records, page_room, text_by, page_text}
 
@@ -44,7 +43,7 @@ module _ (g : SignedGraph) (k : ℕ) where
   pages_text (suc n) m =
       page_text g k m ++ following (page_of g k m page_room).end (pages_text n (page_of g k m page_room).next)
 
-  module _ (a : check_of g k ≡ Accepted) where
+  module _ (a : check_of g k ≡ passed) where
     -- with pages enough, they are the lines of all groups that are due
     pages_due : (n : ℕ) (m : Bookmark) → length (due_groups g k m) < n → pages_text n m ≡ groups_text (due_groups g k m)
     unfolding pages_text
@@ -73,11 +72,10 @@ module _ (g : SignedGraph) (k : ℕ) where
     pages_listing n h = pages_due n Start h
 
 -- where groups are due, the texts of the pages and then the lines behind them are printed
-pub pages_printed : (input : List ℕ) (n : ℕ) → (due_for input).answer ≡ Groups → length (listing (due_for input).graph (due_for input).threshold) < n
-    → printed input ≡ pages_text (due_for input).graph (due_for input).threshold n Start ++ closing_text (closing_for input)
+pub pages_printed : (input : List ℕ) (n : ℕ) (d : Due) → due_for input ≡ Ok d → length (listing d.graph d.threshold) < n
+    → printed input ≡ pages_text d.graph d.threshold n Start ++ closing_text (closing_for input)
 unfolding printed
-pages_printed input n e h =
-    let d = due_for input in
-    ap (λ (x : Answer). listing_text x d.graph d.threshold ++ closing_text (closing_for input)) e
-    ∙ ap (λ (t : List ℕ). t ++ closing_text (closing_for input))
-    (sym (pages_listing d.graph d.threshold (due_checked input d refl e) n h))
+pages_printed input n d e h =
+    ap printed_of e
+    ∙ ap₂ (λ (t : List ℕ) (x : Result Due Line). t ++ closing_text (closing_of x))
+    (sym (pages_listing d.graph d.threshold (due_checked input d e) n h)) (sym e)

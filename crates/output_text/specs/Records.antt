@@ -1,16 +1,13 @@
 -- For proofs: the lines of records. Assumes nothing.
-use Rattle.std.specs.Prelude.{ℕ, ◌/◌, List, length}
-use Rattle.vertex_set.specs.Ranges.{gather}
-use Rattle.group_pages.specs.declared.RecordSides.{RecordSides}
-use Rattle.group_pages.specs.Records.{record_width, sides_at}
-use Rattle.report.specs.declared.Line.{Line}
+use Rattle.std.specs.Prelude.{ℕ, List, flat_map}
+use Rattle.group_pages.specs.Records.{sides_of, records_in}
 use Rattle.report.specs.declared.Line.TheVariants.{Group}
 use Rattle.report.specs.Lines.{line_text}
 
--- the line of sides
-abbrev pub sides_line : RecordSides → Line
-sides_line sides = Group sides.left sides.right
+-- the line of a record
+abbrev pub record_line : List ℕ → List ℕ
+record_line bytes = line_text (Group (sides_of bytes))
 
 -- the lines of the records of a listing
-unfoldable pub records_text : List ℕ → List ℕ
-records_text bytes = gather (length bytes / record_width) 0 (λ i. line_text (sides_line (sides_at bytes i)))
+abbrev pub records_text : List ℕ → List ℕ
+records_text bytes = flat_map record_line (records_in bytes)

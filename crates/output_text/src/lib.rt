@@ -1,15 +1,14 @@
 // What the program `groups` prints, as text: a page of groups at a time, and the lines behind them.
 #![tactic(auto)]
 
-ghost use Rattle.std.specs.Prelude.{◌≡◌, ◌*◌, ◌/◌, ◌≤◌, length, take};
-ghost use Rattle.vertex_set.specs.Buffers.{overwritten};
+ghost use Rattle.std.specs.Prelude.{◌≡◌, ◌/◌, ◌≤◌, length};
 ghost use Rattle.group_pages.specs.Calls.{page_of};
 ghost use Rattle.group_pages.specs.Records.{record_width};
-ghost use Rattle.report.specs.Lines.{line_text, longest_line};
 ghost use Rattle.output.specs.Output.{closing_text};
 ghost use Rattle.output_text.specs.Records.{records_text};
-ghost use Rattle.output_text.specs.PageTexts.{page_room, page_text};
+ghost use Rattle.output_text.specs.PageTexts.{page_records, page_room, page_text};
 
+use arrayvec::ArrayString;
 use output::Closing;
 use pages::{Bookmark, Page};
 use report::Line;
@@ -27,74 +26,42 @@ pub const PAGE_TEXT: usize = PAGE_RECORDS * report::LONGEST;
 // Enough bytes for the two lines behind the groups.
 pub const CLOSING_TEXT: usize = 2 * report::LONGEST;
 
-// A page, and how many bytes its lines take.
-#[derive(Clone, Copy)]
-pub struct PageText {
-    pub page: Page,
-    pub length: usize,
-}
-
-// Writes the text of a line, and returns its length.
-fn put_line(line: Line, text: &mut [u8]) -> usize
-    requires { longest_line ≤ length text.old }
-    ensures length { result ≡ length (line_text line) }
-    ensures bytes { text.new ≡ overwritten (line_text line) text.old }
+// Makes a text the lines of records.
+fn put_records(records: &[u8], text: &mut ArrayString<PAGE_TEXT>)
+    requires { length records.now / record_width ≤ page_records }
+    ensures { text.new.bytes ≡ records_text records.now }
 {
-    report::write(line, text)
-}
-
-// Writes the lines of records, and returns how many bytes they take.
-fn put_records(records: &[u8], text: &mut [u8]) -> usize
-    requires { longest_line * (length records.now / record_width) ≤ length text.old }
-    ensures length { result ≡ length (records_text records.now) }
-    ensures bytes { text.new ≡ overwritten (records_text records.now) text.old }
-{
-    let count = (records.len() / group_pages::RECORD_BYTES) as u64;
-    let mut i: u64 = 0;
-    let mut at: usize = 0;
-    while i < count {
-        let sides = group_pages::sides_at(records, i);
-        let line = Line::Group(sides.left, sides.right);
-        let written = put_line(line, &mut text[at..]);
-        at += written;
-        i += 1;
-    }
-    at
-}
-
-// Writes the lines behind the groups, and returns how many bytes they take.
-fn put_lines(closing: Closing, text: &mut [u8]) -> usize
-    requires { longest_line * 2 ≤ length text.old }
-    ensures length { result ≡ length (closing_text closing) }
-    ensures bytes { text.new ≡ overwritten (closing_text closing) text.old }
-{
-    match closing {
-        Closing::Refused(line) => put_line(line, text),
-        Closing::Lines(largest, count) => {
-            let start = put_line(largest, text);
-            let rest = put_line(count, &mut text[start..]);
-            start + rest
-        }
+    text.clear();
+    for record in group_pages::records_in(records) {
+        let sides = group_pages::sides_of(record);
+        report::write(Line::Group(sides), text).unwrap();
     }
 }
 
-// Writes the lines of the groups of a page; of a refused call there are none.
-pub fn put_page(g: SignedGraph, k: u64, from: Bookmark, text: &mut [u8; PAGE_TEXT]) -> PageText
-    ensures page { result.page ≡ page_of g k from page_room }
-    ensures length { result.length ≡ length (page_text g k from) }
-    ensures bytes { text.new ≡ overwritten (page_text g k from) text.old }
+// Makes a text the lines of the groups of a page; of a refused call there are none.
+// kept: `list_page` fills bytes, of which so many are records.
+pub fn put_page(g: SignedGraph, k: u64, from: Bookmark, text: &mut ArrayString<PAGE_TEXT>) -> Page
+    ensures page { result ≡ page_of g k from page_room }
+    ensures text { text.new.bytes ≡ page_text g k from }
 {
     let mut space = [0u8; PAGE];
     let page = listing::list_page(g, k, from, &mut space);
     let end = group_pages::RECORD_BYTES * page.count;
-    let length = put_records(&space[..end], text);
-    PageText { page, length }
+    put_records(&space[..end], text);
+    page
 }
 
-// Writes the lines behind the groups, and returns how many bytes they take.
-pub fn put_closing(closing: Closing, text: &mut [u8; CLOSING_TEXT]) -> usize
-    ensures length { result ≡ length (closing_text closing) }
-    ensures bytes { text.new ≡ overwritten (closing_text closing) text.old }
+// The lines behind the groups; of a refusal its line alone.
+pub fn closing_text(closing: Result<Closing, Line>) -> ArrayString<CLOSING_TEXT>
+    ensures { result.bytes ≡ closing_text closing }
 {
-    put_lines(closing, text)
+    let mut text = ArrayString::new();
+    match closing {
+        Err(line) => report::write(line, &mut text).unwrap(),
+        Ok(lines) => {
+            report::write(lines.largest, &mut text).unwrap();
+            report::write(lines.count, &mut text).unwrap();
+        }
+    }
+    text
 }

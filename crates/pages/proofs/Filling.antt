@@ -3,38 +3,25 @@ use Prim.Native.Nat.{ℕ, ◌+◌, ◌-◌, ◌*◌, ◌/◌, ◌≤◌, ◌<◌
 use native.Mathlib.Nat.{min-zero, mul-zero, mul_comm, le-div_iff_mul-le}
 use native.Mathlib.Omega.{arith}
 use mathlib.Core.Path.{◌≡◌, refl, sym, ap, ap₂, ◌∙◌, subst}
-use mathlib.Core.Bool.{Bool, true, false}
 use mathlib.Core.List.{List, [], ◌∷◌, ◌++◌, append-nil, append_assoc}
 use lib.Dec.{leb}
 use lib.ListN.{length, take, drop, length-append, length-take, length-drop}
 use lib.Seq.{take_all, take-append-le}
 use borrow.Rule.Slice.PartMut.{put_mid}
-use borrow.Author.Tests.{le-leb, lt-leb, eq-eqb, ne_eqb}
+use borrow.Author.Tests.{le-leb, lt-leb}
 use Rattle.vertex_set.proofs.Buffers.{Laid, laid_piece, laid_end}
-use Rattle.signed_graph.specs.declared.Check.TheVariants.{Accepted}
+use Rattle.signed_graph.specs.Calls.{passed}
 use Rattle.pages.specs.declared.Bookmark.{Bookmark}
 use Rattle.pages.specs.declared.Bookmark.TheVariants.{After}
 use Rattle.pages.specs.declared.End.TheVariants.{Finished, More}
 use Rattle.pages.specs.declared.Page.{Page}
-use Rattle.pages.specs.declared.Tally.{Tally}
 use Rattle.pages.specs.Pages.{finished_if, next_mark, records, answer, filled}
-use Rattle.pages.specs.Filling.{Holds, mark_after, end_at, page_at, Adds}
+use Rattle.pages.specs.Filling.{empty, Holds, Adds}
 use Rattle.pages.proofs.Pages.{records_append, length_records, finished_if_law}
 
 -- the page with the answer that there is more
-abbrev with_more : Page → Page
-with_more page = record { outcome = Accepted; count = page.count; next = page.next; end = More }
-
--- ---- what is kept while the page is filled
-
-module _ (m : Bookmark) (count last : ℕ) where
-  pub mark_none : count ≡ 0 → mark_after m count last ≡ m
-  unfolding mark_after
-  mark_none e = ap (λ (b : Bool). elim b [ true ↦ m | false ↦ After last ]) (eq-eqb count 0 e)
-
-  pub mark_some : (count ≡ 0 → ⊥) → mark_after m count last ≡ After last
-  unfolding mark_after
-  mark_some e = ap (λ (b : Bool). elim b [ true ↦ m | false ↦ After last ]) (ne_eqb count 0 e)
+abbrev pub with_more : Page → Page
+with_more page = record { outcome = page.outcome; count = page.count; next = page.next; end = More }
 
 -- ---- for any items with records of one width
 
@@ -55,7 +42,7 @@ module _ {X : Type 0} (set : X → ℕ) (encode : X → List ℕ) (w : ℕ) (som
     -- the answer of a page that writes n of the items l
     abbrev page_with : ℕ → List X → Page
     page_with n l =
-        record { outcome = Accepted; count = n; next = next_mark set m (take n l); end = finished_if (leb (length l) n) }
+        record { outcome = passed; count = n; next = next_mark set m (take n l); end = finished_if (leb (length l) n) }
 
     length_filled : (l : List X) → length (filled encode w l buffer) ≡ length buffer
     unfolding filled
@@ -66,7 +53,7 @@ module _ {X : Type 0} (set : X → ℕ) (encode : X → List ℕ) (w : ℕ) (som
         length-append (records encode (take n l)) (drop (w * n) buffer)
         ∙ omega (arith, first, room_for n (omega arith), length-drop (w * n) buffer)
 
-    pub holds_none : Holds set encode w m buffer [] (record { outcome = Accepted; count = 0; next = m; end = Finished }) buffer
+    pub holds_none : Holds set encode w m buffer [] (empty m) buffer
     unfolding answer filled next_mark records
     holds_none = record { answered = rw min-zero; wrote = rw (min-zero, mul-zero) }
 
@@ -77,11 +64,11 @@ module _ {X : Type 0} (set : X → ℕ) (encode : X → List ℕ) (w : ℕ) (som
       all_fit = omega arith
 
       fitting_answer : answer set w m (length buffer) l
-          ≡ record { outcome = Accepted; count = length l; next = next_mark set m l; end = Finished }
+          ≡ record { outcome = passed; count = length l; next = next_mark set m l; end = Finished }
       unfolding answer
       fitting_answer =
           ap (λ (n : ℕ). page_with n l) all_fit ∙ (λ i. record {
-            outcome = Accepted;
+            outcome = passed;
             count = length l;
             next = next_mark set m (take_all (length l) l (omega arith) i);
             end = finished_if (le-leb (length l) (length l) (omega arith) i);
@@ -125,7 +112,7 @@ module _ {X : Type 0} (set : X → ℕ) (encode : X → List ℕ) (w : ℕ) (som
           record {
             answered =
                 ap with_more h.answered ∙ (λ i. record {
-                  outcome = Accepted;
+                  outcome = passed;
                   count = sym (same_count met l full) i;
                   next = next_mark set m (sym (same_first met l full) i);
                   end = finished_if (sym (lt-leb (length (met ++ l)) (min places (length (met ++ l))) (omega arith)) i);
@@ -146,12 +133,7 @@ module _ {X : Type 0} (set : X → ℕ) (encode : X → List ℕ) (w : ℕ) (som
           let over : min places (length met) < length met
           = finished_if_law (length met) (min places (length met)) (sym (ap (λ (p : Page). p.end) h.answered) ∙ e) in
           let same : with_more page ≡ page
-          = (λ i. record {
-            outcome = sym (ap (λ (p : Page). p.outcome) h.answered) i;
-            count = page.count;
-            next = page.next;
-            end = sym e i;
-          }) in
+          = (λ i. record { outcome = page.outcome; count = page.count; next = page.next; end = sym e i }) in
           subst (λ (p : Page). Holds set encode w m buffer (met ++ l) p out) same
           (full_holds l (omega arith) (omega (arith, length-append met l)))
 
@@ -160,13 +142,18 @@ module _ {X : Type 0} (set : X → ℕ) (encode : X → List ℕ) (w : ℕ) (som
           let at : ℕ = w * page.count in
           last ≡ encode x ++ drop w (take (length out - at) (drop at out))
           → Holds set encode w m buffer (met ++ x ∷ [])
-          (record { outcome = Accepted; count = page.count + 1; next = After (set x); end = Finished })
+          (record { outcome = page.outcome; count = page.count + 1; next = After (set x); end = Finished })
           (put_mid at (length out - at) out last)
-      unfolding records
+      unfolding records answer
       holds_next x last some is =
           record {
             answered =
-                (λ i. record { outcome = Accepted; count = sym grown i; next = sym (next_snoc m met x) i; end = Finished })
+                (λ i. record {
+                  outcome = ap (λ (p : Page). p.outcome) h.answered i;
+                  count = sym grown i;
+                  next = sym (next_snoc m met x) i;
+                  end = Finished;
+                })
                 ∙ sym (fitting_answer (met ++ x ∷ []) room);
             wrote =
                 laid_end (laid_piece (encode x) [] last w laid wide_x
@@ -205,56 +192,45 @@ module _ {X : Type 0} (set : X → ℕ) (encode : X → List ℕ) (w : ℕ) (som
                 fits = omega (arith, long_records, room_for (length (met ++ x ∷ [])) room);
               }
 
-  module _ (m : Bookmark) (tally : Tally) (entry : List ℕ) (x : X) where
+  module _ (m : Bookmark) (page : Page) (entry : List ℕ) (x : X) where
     -- with a record more
-    pub adds_next : (last : List ℕ) (idle : ℕ) → tally.count < length entry / w →
-        let at : ℕ = w * tally.count in
+    pub adds_next : (last : List ℕ) → page.count < length entry / w →
+        let at : ℕ = w * page.count in
         last ≡ encode x ++ drop w (take (length entry - at) (drop at entry))
-        → Adds set encode w m (x ∷ []) tally entry (record { count = tally.count + 1; last = set x; more = false; idle = idle })
+        → Adds set encode w m (x ∷ []) page entry
+        (record { outcome = page.outcome; count = page.count + 1; next = After (set x); end = Finished })
         (put_mid at (length entry - at) entry last)
-    adds_next last idle some is =
-        record {
-          adds = λ buffer met h.
-              subst (λ (p : Page). Holds set encode w m buffer (met ++ x ∷ []) p (put_mid (w * tally.count) (length entry - w * tally.count) entry last))
-              (λ i. record {
-                outcome = Accepted;
-                count = tally.count + 1;
-                next = sym (mark_some m (tally.count + 1) (set x) (λ e. omega arith)) i;
-                end = Finished;
-              })
-              (holds_next m buffer h x last some is);
-        }
+    adds_next last some is = record { adds = λ buffer met h. holds_next m buffer h x last some is }
 
     -- with no place for it
-    pub adds_more : (idle : ℕ) → length entry / w ≤ tally.count
-        → Adds set encode w m (x ∷ []) tally entry (record { count = tally.count; last = tally.last; more = true; idle = idle }) entry
-    adds_more idle full = record { adds = λ buffer met h. holds_more m buffer h x full }
+    pub adds_more : length entry / w ≤ page.count → Adds set encode w m (x ∷ []) page entry (with_more page) entry
+    adds_more full = record { adds = λ buffer met h. holds_more m buffer h x full }
 
   -- a full page stays
-  module _ {m : Bookmark} {tally : Tally} {entry : List ℕ} where
-    pub adds_full : (items : List X) → tally.more ≡ true → Adds set encode w m items tally entry tally entry
-    adds_full items more = record { adds = λ buffer met h. holds_full m buffer h (ap end_at more) items }
+  module _ {m : Bookmark} {page : Page} {entry : List ℕ} where
+    pub adds_full : (items : List X) → page.end ≡ More → Adds set encode w m items page entry page entry
+    adds_full items more = record { adds = λ buffer met h. holds_full m buffer h more items }
 
 -- ---- with no item, with equal ones, with some and then others
 
-module _ {X : Type 0} (set : X → ℕ) (encode : X → List ℕ) (w : ℕ) {m : Bookmark} {tally : Tally} {entry : List ℕ} where
-  pub adds_none : {items : List X} → items ≡ [] → Adds set encode w m items tally entry tally entry
+module _ {X : Type 0} (set : X → ℕ) (encode : X → List ℕ) (w : ℕ) {m : Bookmark} {page : Page} {entry : List ℕ} where
+  pub adds_none : {items : List X} → items ≡ [] → Adds set encode w m items page entry page entry
   adds_none e =
       record {
         adds = λ buffer met h.
-            subst (λ (x : List X). Holds set encode w m buffer x (page_at m tally) entry)
+            subst (λ (x : List X). Holds set encode w m buffer x page entry)
             (sym (ap (λ (x : List X). met ++ x) e ∙ append-nil met)) h;
       }
 
-  module _ {after : Tally} {exit : List ℕ} where
-    pub adds_as : {xs ys : List X} → xs ≡ ys → Adds set encode w m ys tally entry after exit → Adds set encode w m xs tally entry after exit
-    adds_as e = subst (λ (x : List X). Adds set encode w m x tally entry after exit) (sym e)
+  module _ {after : Page} {exit : List ℕ} where
+    pub adds_as : {xs ys : List X} → xs ≡ ys → Adds set encode w m ys page entry after exit → Adds set encode w m xs page entry after exit
+    adds_as e = subst (λ (x : List X). Adds set encode w m x page entry after exit) (sym e)
 
-    pub adds_both : {xs ys : List X} {first : Tally} {mid : List ℕ} → Adds set encode w m xs tally entry first mid
-        → Adds set encode w m ys first mid after exit → Adds set encode w m (xs ++ ys) tally entry after exit
+    pub adds_both : {xs ys : List X} {first : Page} {mid : List ℕ} → Adds set encode w m xs page entry first mid
+        → Adds set encode w m ys first mid after exit → Adds set encode w m (xs ++ ys) page entry after exit
     adds_both {xs} {ys} a b =
         record {
           adds = λ buffer met h.
-              subst (λ (x : List X). Holds set encode w m buffer x (page_at m after) exit) (append_assoc met xs ys)
+              subst (λ (x : List X). Holds set encode w m buffer x after exit) (append_assoc met xs ys)
               (b.adds buffer (met ++ xs) (a.adds buffer met h));
         }

@@ -1,7 +1,6 @@
 -- The answer of a page as numbers, case by case. Assumes nothing.
-use Rattle.std.specs.Prelude.{ℕ, List, [], ◌∷◌, leb, length, take}
-use Rattle.signed_graph.specs.declared.Check.{Check}
-use Rattle.signed_graph.specs.declared.Check.TheVariants.{Accepted, Refused}
+use Rattle.std.specs.Prelude.{ℕ, List, [], ◌∷◌, leb, length, take, Ok, Err}
+use Rattle.signed_graph.specs.Calls.{Check}
 use Rattle.pages.specs.declared.Bookmark.{Bookmark}
 use Rattle.pages.specs.declared.Bookmark.TheVariants.{Start, After}
 use Rattle.pages.specs.declared.End.{End}
@@ -30,8 +29,8 @@ page_values p = p.count ∷ end_number p.end ∷ mark_kind p.next ∷ mark_set p
 -- those that a call answers with, by its check: a refused one has count 0, more, and the bookmark that was given
 module _ {X : Type 0} (set : X → ℕ) (width : ℕ) where
   abbrev pub page_values_by : Check → Bookmark → ℕ → List X → List ℕ
-  page_values_by Accepted m room l =
+  page_values_by (Ok x) m room l =
       let count = fitting width room l in
       let next = next_mark set m (take count l) in
       count ∷ end_number (finished_if (leb (length l) count)) ∷ mark_kind next ∷ mark_set next ∷ []
-  page_values_by (Refused why) m room l = 0 ∷ end_number More ∷ mark_kind m ∷ mark_set m ∷ []
+  page_values_by (Err why) m room l = 0 ∷ end_number More ∷ mark_kind m ∷ mark_set m ∷ []

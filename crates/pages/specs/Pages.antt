@@ -1,8 +1,7 @@
 -- Pages, for any items: each has its set of vertices, and records have one width. Assumes nothing.
-use Rattle.std.specs.Prelude.{ℕ, ◌*◌, ◌/◌, min, Bool, true, false, List, [], ◌∷◌, ◌++◌, leb, length, take, drop}
+use Rattle.std.specs.Prelude.{ℕ, ◌*◌, ◌/◌, min, Bool, true, false, List, [], ◌∷◌, ◌++◌, leb, length, take, drop, Ok, Err}
 use Rattle.vertex_set.specs.Lists.{select}
-use Rattle.signed_graph.specs.declared.Check.{Check}
-use Rattle.signed_graph.specs.declared.Check.TheVariants.{Accepted, Refused}
+use Rattle.signed_graph.specs.Calls.{Check, passed}
 use Rattle.vertex_set.specs.Order.{precedes}
 use Rattle.pages.specs.declared.Bookmark.{Bookmark}
 use Rattle.pages.specs.declared.Bookmark.TheVariants.{Start, After}
@@ -47,7 +46,7 @@ module _ {X : Type 0} (set : X → ℕ) (width : ℕ) where
   unfoldable pub answer : Bookmark → ℕ → List X → Page
   answer m room l =
       record {
-        outcome = Accepted;
+        outcome = passed;
         count = fitting width room l;
         next = next_mark set m (take (fitting width room l) l);
         end = finished_if (leb (length l) (fitting width room l));
@@ -62,10 +61,10 @@ module _ {X : Type 0} (encode : X → List ℕ) (width : ℕ) where
 -- by the check of the call: a refused one has count 0, more, and the bookmark that was given, and its buffer stays
 module _ {X : Type 0} (set : X → ℕ) (width : ℕ) where
   abbrev pub page_by : Check → Bookmark → ℕ → List X → Page
-  page_by Accepted m room l = answer set width m room l
-  page_by (Refused why) m room l = record { outcome = Refused why; count = 0; next = m; end = More }
+  page_by (Ok x) m room l = answer set width m room l
+  page_by (Err why) m room l = record { outcome = Err why; count = 0; next = m; end = More }
 
 module _ {X : Type 0} (encode : X → List ℕ) (width : ℕ) where
   abbrev pub bytes_by : Check → List X → List ℕ → List ℕ
-  bytes_by Accepted l buffer = filled encode width l buffer
-  bytes_by (Refused why) l buffer = buffer
+  bytes_by (Ok x) l buffer = filled encode width l buffer
+  bytes_by (Err why) l buffer = buffer

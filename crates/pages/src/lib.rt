@@ -1,76 +1,85 @@
-// Pages of any items: bookmarks, what is due at one, and a page that is being filled.
+// Pages of any items: bookmarks, what is due at one, and the answer of a page.
 #![tactic(auto)]
 
 ghost use Rattle.std.specs.Prelude.{◌≡◌, true};
 ghost use Rattle.pages.specs.Answers.{end_number, mark_kind, mark_set, page_values};
 ghost use Rattle.pages.specs.Pages.{due_at};
-ghost use Rattle.pages.specs.Filling.{Past, mark_after, end_at, page_at};
+ghost use Rattle.pages.specs.Filling.{Past, empty};
 
-use signed_graph::Check;
+use signed_graph::Refusal;
 
 // Where a page starts: at the first item, or after a set in listing order.
-#[derive(Clone, Copy)]
+// kept: Option-shaped, but its form is prescribed: Start or After a set, in the page's answer, beside finished or more.
+#[derive(Clone, Copy, Debug, PartialEq, Eq)]
 pub enum Bookmark {
     Start,
     After(u64),
 }
 
+impl Bookmark {
+    // The kind of a bookmark.
+    // kept: C's number; apart from `set`, as the definitions are.
+    fn kind(self) -> u64
+        ensures { result ≡ mark_kind self }
+    {
+        match self {
+            Bookmark::Start => 0,
+            Bookmark::After(_) => 1,
+        }
+    }
+
+    // The set of a bookmark; empty at the start.
+    fn set(self) -> u64
+        ensures { result ≡ mark_set self }
+    {
+        match self {
+            Bookmark::Start => 0,
+            Bookmark::After(s) => s,
+        }
+    }
+}
+
 // Whether items are due behind a page.
-#[derive(Clone, Copy)]
+#[derive(Clone, Copy, Debug, PartialEq, Eq)]
 pub enum End {
     Finished,
     More,
 }
 
-// How many records a page wrote, and where the next one starts.
+impl End {
+    // kept: the number is C's.
+    fn number(self) -> u64
+        ensures { result ≡ end_number self }
+    {
+        match self {
+            End::Finished => 0,
+            End::More => 1,
+        }
+    }
+}
+
+// Whether a page was refused, how many records it wrote, where the next one starts, and whether items are due behind it; also of a
+// page that is still being filled.
+// kept: the other fields are no part of an Ok: a refused page says more and gives its bookmark back (theorem AllPages).
 #[derive(Clone, Copy)]
 pub struct Page {
-    pub outcome: Check,
+    pub outcome: Result<(), Refusal>,
     pub count: usize,
     pub next: Bookmark,
     pub end: End,
 }
 
-// A page that is being filled: how many records it has, the set of the last, and whether a due item had no place. `idle` is a count
-// that a search carries along with the page, and no part of it.
-#[derive(Clone, Copy)]
-pub struct Tally {
-    pub count: usize,
-    pub last: u64,
-    pub more: bool,
-    pub idle: u64,
-}
-
-// Where the page after this one starts.
-fn next_mark(from: Bookmark, count: usize, last: u64) -> Bookmark
-    ensures { result ≡ mark_after from count last }
-{
-    if count == 0 {
-        return from;
-    }
-    Bookmark::After(last)
-}
-
-fn end_of(more: bool) -> End
-    ensures { result ≡ end_at more }
-{
-    if more {
-        return End::More;
-    }
-    End::Finished
-}
-
-// The page as it is.
-pub fn page_at(from: Bookmark, tally: Tally) -> Page
-    ensures { result ≡ page_at from tally }
-{
-    let next = next_mark(from, tally.count, tally.last);
-    let end = end_of(tally.more);
-    Page {
-        outcome: Check::Accepted,
-        count: tally.count,
-        next,
-        end,
+impl Page {
+    // A page with no record yet.
+    pub fn empty(from: Bookmark) -> Page
+        ensures { result ≡ empty from }
+    {
+        Page {
+            outcome: Ok(()),
+            count: 0,
+            next: from,
+            end: End::Finished,
+        }
     }
 }
 
@@ -97,43 +106,15 @@ pub fn is_past(from: Bookmark, chosen: u64, v: usize) -> bool
     }
 }
 
-fn end_number(end: End) -> u64
-    ensures { result ≡ end_number end }
-{
-    match end {
-        End::Finished => 0,
-        End::More => 1,
-    }
-}
-
-// The kind of a bookmark.
-fn mark_kind(mark: Bookmark) -> u64
-    ensures { result ≡ mark_kind mark }
-{
-    match mark {
-        Bookmark::Start => 0,
-        Bookmark::After(_) => 1,
-    }
-}
-
-// The set of a bookmark; empty at the start.
-fn mark_set(mark: Bookmark) -> u64
-    ensures { result ≡ mark_set mark }
-{
-    match mark {
-        Bookmark::Start => 0,
-        Bookmark::After(s) => s,
-    }
-}
-
 // The answer of a page as numbers: its count, finished or more, and the kind and the set of its next bookmark.
+// kept: the four words of C's answer.
 pub fn page_values(page: Page) -> [u64; 4]
     ensures { result ≡ page_values page }
 {
-    let end = page.end;
-    let next = page.next;
-    let last = end_number(end);
-    let kind = mark_kind(next);
-    let set = mark_set(next);
-    [page.count as u64, last, kind, set]
+    [
+        page.count as u64,
+        page.end.number(),
+        page.next.kind(),
+        page.next.set(),
+    ]
 }

@@ -1,12 +1,13 @@
 -- Vertices that every group below a node holds go in one after the other, and the node stands for the same groups. Assumes nothing.
 use Prim.Native.Nat.{ℕ, ◌^◌, ◌≤◌, ◌<◌}
-use mathlib.Core.Path.{◌≡◌, refl, sym, ap, ◌∙◌, subst}
+use mathlib.Core.Path.{◌≡◌, refl, sym, ap, ◌∙◌}
 use mathlib.Core.Bool.{Bool, true, false}
 use mathlib.Core.List.{List}
 use lib.ListN.{get_or}
-use Rattle.vertex_set.specs.Sets.{mem, Subset, single, lowest}
+use Rattle.vertex_set.specs.Sets.{mem, Subset, single}
 use Rattle.vertex_set.proofs.Membership.{none_in, union_left}
-use Rattle.vertex_set.proofs.LowestVertex.{lowest_lt, rest}
+use Rattle.vertex_set.specs.Members.{TakesLowest}
+use Rattle.signed_graph.specs.declared.Partners.{Partners}
 use Rattle.vertex_set.proofs.Traversals.{Traversal, traversal_begin, traversal_here, traversal_step}
 use Rattle.signed_graph.specs.declared.SignedGraph.{SignedGraph}
 use Rattle.signed_graph.proofs.Soundness.{Sound, to_sound}
@@ -28,14 +29,6 @@ module _ (P : Node → Type 0) (d : Node) (v positive negative : ℕ) where
       go : (b : Bool) → mem v (undecided d) ≡ b → P (elim b [ true ↦ put_in d v positive negative | false ↦ d ])
       go true e = put e
       go false e = stay
-
-pub open_put : (d : Node) (v positive negative : ℕ) → mem v (undecided d) ≡ true → put_in_if_open d v positive negative ≡ put_in d v positive negative
-unfolding put_in_if_open
-open_put d v positive negative e = ap (λ (b : Bool). elim b [ true ↦ put_in d v positive negative | false ↦ d ]) e
-
-pub open_stay : (d : Node) (v positive negative : ℕ) → mem v (undecided d) ≡ false → put_in_if_open d v positive negative ≡ d
-unfolding put_in_if_open
-open_stay d v positive negative e = ap (λ (b : Bool). elim b [ true ↦ put_in d v positive negative | false ↦ d ]) e
 
 -- ---- what stays
 
@@ -91,24 +84,15 @@ module _ (positive negative : List ℕ) (d : Node) (held : ℕ) where
         stands = λ any so va k some w. same_self _ k d va;
       }
 
-  module _ {left : ℕ} {e : Node} (h : Settled left e) (pos : 0 < left) (v : ℕ) (is : v ≡ lowest left) where
-    small : v < 64
-    small = subst (λ (z : ℕ). z < 64) (sym is) (lowest_lt left pos h.traversal.fits)
-
+  module _ {left v after : ℕ} {e : Node} (t : TakesLowest left v after) (h : Settled left e) where
     v_held : mem v held ≡ true
-    v_held = ap (λ (z : ℕ). mem z held) is ∙ traversal_here h.traversal pos
+    v_held = ap (λ (z : ℕ). mem z held) t.is_lowest ∙ traversal_here h.traversal t.some
 
-    abbrev plus : ℕ
-    plus = get_or positive v 0
-
-    abbrev minus : ℕ
-    minus = get_or negative v 0
-
-    pub settled_step : (next : Node) → next ≡ put_in_if_open e v plus minus → Settled (rest left) next
-    settled_step next is-next =
-        subst (Settled (rest left)) (sym is-next)
-        (record {
-          traversal = traversal_step h.traversal pos;
+    -- v, which has these partners, goes in
+    settled_next : Settled after (put_in_if_open e v (get_or positive v 0) (get_or negative v 0))
+    settled_next =
+        record {
+          traversal = rw t.is_rest (traversal_step h.traversal t.some);
           fewer = open_cases (λ f. Subset (undecided f) (undecided d)) e v plus minus
               (λ _ p m. h.fewer p (put_fewer e v plus minus p m)) h.fewer;
           kept = open_cases (λ f. Subset d.left.chosen f.left.chosen) e v plus minus
@@ -117,6 +101,16 @@ module _ (positive negative : List ℕ) (d : Node) (held : ℕ) where
               let s = h.stands any so va k some w in
               led_chosen va.stage some (λ a m.
               open_cases (Same _ k d) e v plus minus
-              (λ here. same_then s (held_same _ (to_sound _ so) k e s.valid v small a (h.kept a m)
+              (λ here. same_then s (held_same _ (to_sound _ so) k e s.valid v t.is_vertex a (h.kept a m)
               (λ x lx b. w v v_held x lx (s.from x lx b)) here)) s);
-        })
+        }
+      where
+        plus : ℕ
+        plus = get_or positive v 0
+
+        minus : ℕ
+        minus = get_or negative v 0
+
+    pub settled_step : {of : Partners} → {next : Node} → of ≡ record { positive = get_or positive v 0; negative = get_or negative v 0 }
+        → next ≡ put_in_if_open e v of.positive of.negative → Settled after next
+    settled_step rows is = rw (is, rows) settled_next

@@ -12,11 +12,12 @@ use Rattle.vertex_set.specs.Ranges as R
 use Rattle.vertex_set.specs.Sets as S
 use Rattle.bit_matrix.specs.Matrices.{table_of}
 use Rattle.signed_graph.specs.declared.SignedGraph.{SignedGraph}
-use Rattle.signed_graph.specs.declared.Check.TheVariants.{Accepted}
+use Rattle.std.specs.Prelude.{Result, Ok}
+use Rattle.signed_graph.specs.declared.Refusal.{Refusal}
 use Rattle.signed_graph.specs.Graphs.{vertices, edge_count, with_tables}
 use Rattle.signed_graph.specs.Samples.{sample_a, masked_a}
 use Rattle.signed_graph.specs.Soundness.{sound, has_all_rows, loopless, symmetric, confined, unambiguous, masks_below}
-use Rattle.signed_graph.specs.Calls.{check_by}
+use Rattle.signed_graph.specs.Calls.{passed, check_by}
 use Rattle.signed_graph.proofs.Soundness.{Sound, to_sound, from_sound}
 use Rattle.clique.specs.Balance.{balanced, all_agree, left, right}
 use Rattle.clique.specs.Groups.{floor, extension, is_group, groups}
@@ -24,7 +25,7 @@ use Rattle.vertex_set.specs.Order.{choices, subsets}
 use Rattle.clique.proofs.Cases.{set}
 use Rattle.reduction.specs.declared.Reduced.{Reduced}
 use Rattle.reduction.specs.Collections.{all_edges, at_least, vertex_fits, positive_fits, negative_fits}
-use Rattle.reduction.specs.Reductions.{unmasked, round, fallen, edges_at, looks_at, reduced_graph, looks, reduced_by, reduced}
+use Rattle.reduction.specs.Reductions.{unmasked, round, fallen, edges_at, looks_at, reduced_graph, looks, reduced_by, reduced, reduced_left, looks_left}
 use Rattle.reduction.proofs.Reductions.{zero_fits}
 use Rattle.reduction.proofs.Masking.{unmasked_none}
 use Rattle.reduction.proofs.Looks.{none_looked, none_dropped}
@@ -52,24 +53,24 @@ abbrev pub bare0 : SignedGraph
 bare0 = with_tables (masked_a (set (0 ∷ []))) (replicate 64 0) (replicate 64 0)
 
 pub record Reductions : Type 0 where
-  pub T6 : reduced sample_a 2 ≡ record { outcome = Accepted; graph = core_a; looks = 21 }
-  pub T6-looks : (reduced sample_a 2).looks ≡ 21
-  pub T6-edges : edge_count (reduced sample_a 2).graph ≡ 6
-  pub T6-at-1 : reduced sample_a 1 ≡ record { outcome = Accepted; graph = sample_a; looks = 13 }
-  pub T6-at-1-edges : edge_count (reduced sample_a 1).graph ≡ 8
+  pub T6 : reduced sample_a 2 ≡ Ok (record { graph = core_a; looks = 21 })
+  pub T6-looks : looks_left (reduced sample_a 2) ≡ 21
+  pub T6-edges : edge_count (reduced_left (reduced sample_a 2)) ≡ 6
+  pub T6-at-1 : reduced sample_a 1 ≡ Ok (record { graph = sample_a; looks = 13 })
+  pub T6-at-1-edges : edge_count (reduced_left (reduced sample_a 1)) ≡ 8
 
 -- A with a vertex masked: with 4, for 0 it keeps the 6 edges that are left, in 11 looks; with 0, for 2 none of 4, in 13
 pub record Masked : Type 0 where
-  pub at_0 : reduced (masked_a (set (4 ∷ []))) 0 ≡ record { outcome = Accepted; graph = core4; looks = 11 }
-  pub at_0_edges : edge_count (reduced (masked_a (set (4 ∷ []))) 0).graph ≡ 6
-  pub at_2 : reduced (masked_a (set (0 ∷ []))) 2 ≡ record { outcome = Accepted; graph = bare0; looks = 13 }
+  pub at_0 : reduced (masked_a (set (4 ∷ []))) 0 ≡ Ok (record { graph = core4; looks = 11 })
+  pub at_0_edges : edge_count (reduced_left (reduced (masked_a (set (4 ∷ []))) 0)) ≡ 6
+  pub at_2 : reduced (masked_a (set (0 ∷ []))) 2 ≡ Ok (record { graph = bare0; looks = 13 })
 
 -- the answer where the rounds have come to one that drops nothing
 answer : (g : SignedGraph) (k : ℕ) → Sound g → k ≤ 32 → {kept : SignedGraph} {look total : ℕ} → Reached g k kept look total
-    → fallen kept k look ≡ 0 → reduced g k ≡ record { outcome = Accepted; graph = kept; looks = total + looks_at kept look }
+    → fallen kept k look ≡ 0 → reduced g k ≡ Ok (record { graph = kept; looks = total + looks_at kept look })
 answer g k so small r none =
     ap₂ (λ (a b : Bool). reduced_by (check_by a b) (reduced_graph g k) (looks g k)) (from_sound g so) (le-leb k 32 small)
-    ∙ sym (ap₂ (reduced_by Accepted) (reached_graph so r none) (reached_looks so r none))
+    ∙ sym (ap₂ (reduced_by passed) (reached_graph so r none) (reached_looks so r none))
 
 sound_A : Sound sample_a
 unfolding sound has_all_rows loopless symmetric confined unambiguous masks_below R.all S.mem
@@ -83,7 +84,7 @@ none_at_1 : fallen sample_a 1 (S.below 5) ≡ 0
 unfolding round fallen vertex_fits positive_fits negative_fits at_least table_of R.all R.count R.gather S.mem S.collect S.below
 none_at_1 = refl
 
-at_1 : reduced sample_a 1 ≡ record { outcome = Accepted; graph = sample_a; looks = 13 }
+at_1 : reduced sample_a 1 ≡ Ok (record { graph = sample_a; looks = 13 })
 unfolding looks_at edges_at R.count R.sum S.mem S.collect S.size S.below
 at_1 = answer sample_a 1 sound_A (omega arith) (first 1) none_at_1
 
@@ -97,7 +98,7 @@ none_at_2 : fallen core_a 2 (set (0 ∷ 2 ∷ 4 ∷ [])) ≡ 0
 unfolding round fallen vertex_fits positive_fits negative_fits at_least table_of R.all R.count R.gather S.mem S.collect
 none_at_2 = refl
 
-at_2 : reduced sample_a 2 ≡ record { outcome = Accepted; graph = core_a; looks = 21 }
+at_2 : reduced sample_a 2 ≡ Ok (record { graph = core_a; looks = 21 })
 unfolding looks_at edges_at R.count R.sum S.mem S.collect S.size
 at_2 = answer sample_a 2 sound_A (omega arith) second none_at_2
 
@@ -106,10 +107,10 @@ unfolding edge_count R.count R.sum S.mem
 cases_reductions =
     record {
       T6 = at_2;
-      T6-looks = ap (λ (r : Reduced). r.looks) at_2;
-      T6-edges = ap (λ (r : Reduced). edge_count r.graph) at_2;
+      T6-looks = ap looks_left at_2;
+      T6-edges = ap (λ (r : Result Reduced Refusal). edge_count (reduced_left r)) at_2;
       T6-at-1 = at_1;
-      T6-at-1-edges = ap (λ (r : Reduced). edge_count r.graph) at_1;
+      T6-at-1-edges = ap (λ (r : Result Reduced Refusal). edge_count (reduced_left r)) at_1;
     }
 
 sound_masked : (s : ℕ) → s < 2 ^ 5 → Sound (masked_a s)
@@ -121,7 +122,7 @@ first_4 : Reached (masked_a (set (4 ∷ []))) 0 core4 (S.below 5) 0
 unfolding unmasked table_of R.gather S.mem S.collect
 first_4 = reached_first (masked_a (set (4 ∷ []))) 0
 
-masked_4 : reduced (masked_a (set (4 ∷ []))) 0 ≡ record { outcome = Accepted; graph = core4; looks = 11 }
+masked_4 : reduced (masked_a (set (4 ∷ []))) 0 ≡ Ok (record { graph = core4; looks = 11 })
 unfolding looks_at edges_at R.count R.sum S.mem S.collect S.size S.below
 masked_4 =
     let so : Sound (masked_a (set (4 ∷ []))) = sound_masked (set (4 ∷ [])) (omega arith) in
@@ -137,7 +138,7 @@ second_0 : Sound (masked_a (set (0 ∷ []))) → Reached (masked_a (set (0 ∷ [
 unfolding round fallen vertex_fits positive_fits negative_fits at_least looks_at edges_at table_of R.all R.count R.sum R.gather S.mem S.collect S.size S.below
 second_0 so = reached_next so first_0 (λ z. omega arith)
 
-masked_0 : reduced (masked_a (set (0 ∷ []))) 2 ≡ record { outcome = Accepted; graph = bare0; looks = 13 }
+masked_0 : reduced (masked_a (set (0 ∷ []))) 2 ≡ Ok (record { graph = bare0; looks = 13 })
 unfolding looks_at edges_at R.count R.sum S.mem S.collect S.size
 masked_0 =
     let so : Sound (masked_a (set (0 ∷ []))) = sound_masked (set (0 ∷ [])) (omega arith) in
@@ -149,7 +150,7 @@ unfolding edge_count R.count R.sum S.mem
 cases_masked =
     record {
       at_0 = masked_4;
-      at_0_edges = ap (λ (r : Reduced). edge_count r.graph) masked_4;
+      at_0_edges = ap (λ (r : Result Reduced Refusal). edge_count (reduced_left r)) masked_4;
       at_2 = masked_0;
     }
 

@@ -26,7 +26,7 @@ use Rattle.vertex_set.specs.Order.{subsets}
 use Rattle.clique.proofs.Balance.{usable_64, other_side, split_swap, split_part, split_balanced, is_left, is_right, one_split}
 use Rattle.clique.proofs.Groups.{floor_least, group_pos, group_words_law, words_group}
 use Rattle.reduction.specs.Collections.{Collection, all_edges, unmasked_ends, unmasked_edges, Inside, at_least, vertex_fits, positive_fits, negative_fits, Fits}
-use Rattle.reduction.specs.Reductions.{Reduction, reduced_graph, looks, reduced_by, reduced}
+use Rattle.reduction.specs.Reductions.{Reduction, reduced_graph, looks, reduced_by, reduced, reduced_left}
 use Rattle.reduction.proofs.Reductions.{rounds_reduce, reduction_sound}
 
 -- ---- counts
@@ -221,11 +221,11 @@ reduction_keeps g r k so red =
 
 -- as the call answers: its graph is sound and has the groups, for every sound graph and every k that is not refused
 pub reduce_keeps : (g : SignedGraph) (k : ℕ) → sound g ≡ true → k ≤ 32
-    → (sound (reduced g k).graph ≡ true) × SameGroups g (reduced g k).graph k
+    → (sound (reduced_left (reduced g k)) ≡ true) × SameGroups g (reduced_left (reduced g k)) k
 reduce_keeps g k e small =
     let so : Sound g = to_sound g e in
     let red : Reduction g k (reduced_graph g k) = rounds_reduce g k so in
-    let accepted : reduced_graph g k ≡ (reduced g k).graph =
-    sym (ap₂ (λ (a b : Bool). (reduced_by (check_by a b) (reduced_graph g k) (looks g k)).graph) e (le-leb k 32 small)) in
+    let accepted : reduced_graph g k ≡ reduced_left (reduced g k) =
+    sym (ap₂ (λ (a b : Bool). reduced_left (reduced_by (check_by a b) (reduced_graph g k) (looks g k))) e (le-leb k 32 small)) in
     subst (λ (r : SignedGraph). (sound r ≡ true) × SameGroups g r k) accepted
     (from_sound (reduced_graph g k) (reduction_sound g k so red), reduction_keeps g (reduced_graph g k) k so red)

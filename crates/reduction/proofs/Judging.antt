@@ -10,15 +10,19 @@ use lib.Dec.{eqb}
 use lib.Bits.{bit_and}
 use lib.ListN.{get_or, length}
 use borrow.Author.Tests.{eqb-true, eq-eqb, ne_eqb, lt-ltb}
-use Rattle.vertex_set.specs.Sets.{mem, lowest}
+use Rattle.vertex_set.specs.Sets.{mem}
+use Rattle.vertex_set.specs.Members.{TakesLowest}
 use Rattle.vertex_set.proofs.Membership.{mem_none, mem_ones, mem_ext}
-use Rattle.vertex_set.proofs.LowestVertex.{rest, mem_rest, lowest_in, lowest_lt}
-use Rattle.vertex_set.proofs.Traversals.{Traversal, traversal_begin, traversal_here, traversal_step}
+use Rattle.vertex_set.proofs.LowestVertex.{rest_lt, mem_rest, lowest_in}
+use Rattle.vertex_set.proofs.Traversals.{Traversal, traversal_here, traversal_step}
 use Rattle.bit_matrix.specs.Matrices.{table_of}
 use Rattle.bit_matrix.proofs.Matrices.{table_is}
 use Rattle.reduction.specs.RoundTables.{sifted, stays, JudgedOnce, Parted}
 use Rattle.reduction.proofs.Striking.{sifted_lt, mem_sifted}
 use Rattle.reduction.proofs.Parting.{minus}
+
+pub after_lt : {left p after : ℕ} → TakesLowest left p after → left < 2 ^ 64 → after < 2 ^ 64
+after_lt {left} t h = subst (λ (z : ℕ). z < 2 ^ 64) (sym t.is_rest) (rest_lt 64 left h)
 
 -- kept has what stays, and every edge with a vertex that is left
 pub record Judging (look : ℕ) (rows : List ℕ) (test : ℕ → ℕ → Bool) (left : ℕ) (kept : List ℕ) : Type 0 where
@@ -34,19 +38,6 @@ module _ (look : ℕ) {rows : List ℕ} {test : ℕ → ℕ → Bool} (j : Judge
 
   abbrev stay : ℕ → ℕ → Bool
   stay p q = not (mem p look || mem q look) || test p q
-
-  pub judging_begin : look < 2 ^ 64 → Judging look rows test look rows
-  judging_begin h =
-      record {
-        traversal = traversal_begin look h;
-        long = j.whole;
-        less = λ a. omega arith;
-        has = λ a b l k. go (joins a b) (mem a look || mem b look) (test a b);
-      }
-    where
-      go : (o l t : Bool) → o ≡ (o && (l || (not l || t)))
-      go o true t = sym (and-true o)
-      go o false t = sym (and-true o)
 
   -- ---- the edges of p that are due
 
@@ -78,39 +69,39 @@ module _ (look : ℕ) {rows : List ℕ} {test : ℕ → ℕ → Bool} (j : Judge
   -- ---- the step
 
   -- the row of a vertex that is left is whole
-  pub whole_row : {left : ℕ} {kept : List ℕ} → Judging look rows test left kept → 0 < left → (p : ℕ) → p ≡ lowest left
+  pub whole_row : {left p after : ℕ} {kept : List ℕ} → TakesLowest left p after → Judging look rows test left kept
       → get_or kept p 0 ≡ get_or rows p 0
-  whole_row {left} {kept} d pos p e =
+  whole_row {left} {p} {after} {kept} t d =
       mem_ext 64 (get_or kept p 0) (get_or rows p 0) (omega (arith, d.less p, j.fits p)) (j.fits p) (λ b k.
-      d.has p b (subst (λ (z : ℕ). z < 64) (sym e) (lowest_lt left pos d.traversal.fits)) k
+      d.has p b t.is_vertex k
       ∙ ap (λ (x : Bool). joins p b && ((x || mem b left) || stay p b))
-      (ap (λ (z : ℕ). mem z left) e ∙ lowest_in left pos d.traversal.fits) ∙ and-true (joins p b))
+      (ap (λ (z : ℕ). mem z left) t.is_lowest ∙ lowest_in left t.some d.traversal.fits) ∙ and-true (joins p b))
 
-  module _ {left : ℕ} {kept : List ℕ} (d : Judging look rows test left kept) (pos : 0 < left) (p out : ℕ) (next : List ℕ) (e : p ≡ lowest left)
-      (o : (b : ℕ) → b < 64 → mem b out ≡ goes (rest left) p b) (pt : Parted kept p out next) where
+  module _ {left p after : ℕ} {kept : List ℕ} (t : TakesLowest left p after) (d : Judging look rows test left kept) (out : ℕ) (next : List ℕ)
+      (o : (b : ℕ) → b < 64 → mem b out ≡ goes after p b) (pt : Parted kept p out next) where
     fits : left < 2 ^ 64
     fits = d.traversal.fits
 
     low : p < 64
-    low = subst (λ (z : ℕ). z < 64) (sym e) (lowest_lt left pos fits)
+    low = t.is_vertex
 
     was_left : mem p left ≡ true
-    was_left = ap (λ (z : ℕ). mem z left) e ∙ lowest_in left pos fits
+    was_left = ap (λ (z : ℕ). mem z left) t.is_lowest ∙ lowest_in left t.some fits
 
     looked : mem p look ≡ true
-    looked = ap (λ (z : ℕ). mem z look) e ∙ traversal_here d.traversal pos
+    looked = ap (λ (z : ℕ). mem z look) t.is_lowest ∙ traversal_here d.traversal t.some
 
-    now_left : (a : ℕ) → mem a (rest left) ≡ (mem a left && not (eqb a p))
-    now_left a = mem_rest left pos fits a ∙ ap (λ (z : ℕ). mem a left && not (eqb a z)) (sym e)
+    now_left : (a : ℕ) → mem a after ≡ (mem a left && not (eqb a p))
+    now_left a = ap (mem a) t.is_rest ∙ mem_rest left t.some fits a ∙ ap (λ (z : ℕ). mem a left && not (eqb a z)) (sym t.is_lowest)
 
-    not_left : mem p (rest left) ≡ false
+    not_left : mem p after ≡ false
     not_left = now_left p ∙ ap₂ (λ (x y : Bool). x && not y) was_left (eq-eqb p p refl)
 
-    still : (a : ℕ) → a ≢ p → mem a (rest left) ≡ mem a left
+    still : (a : ℕ) → a ≢ p → mem a after ≡ mem a left
     still a n = now_left a ∙ ap (λ (x : Bool). mem a left && not x) (ne_eqb a p n) ∙ and-true (mem a left)
 
     abbrev due : ℕ → ℕ → Bool
-    due a b = joins a b && ((mem a (rest left) || mem b (rest left)) || stay a b)
+    due a b = joins a b && ((mem a after || mem b after) || stay a b)
 
     -- the row of p
     own_row : (b : ℕ) → b < 64 → mem b (get_or next p 0) ≡ due p b
@@ -119,9 +110,9 @@ module _ (look : ℕ) {rows : List ℕ} {test : ℕ → ℕ → Bool} (j : Judge
         ∙ ap₂ (λ (x y : Bool). x && not (y && mem b out || eqb b p && mem p out))
         (d.has p b low k ∙ ap (λ (x : Bool). joins p b && ((x || mem b left) || stay p b)) was_left) (eq-eqb p p refl)
         ∙ ap (λ (x : Bool). (joins p b && true) && not (x || eqb b p && mem p out)) (o b k)
-        ∙ go (joins p b) (mem b (rest left)) (test p b) (eqb b p) (mem p out)
-        (λ t. ap (λ (z : ℕ). mem z out) (sym (eqb-true b p t)) ∙ o b k)
-        ∙ sym (ap₂ (λ (x y : Bool). joins p b && ((x || mem b (rest left)) || (not (y || mem b look) || test p b))) not_left looked)
+        ∙ go (joins p b) (mem b after) (test p b) (eqb b p) (mem p out)
+        (λ x. ap (λ (z : ℕ). mem z out) (sym (eqb-true b p x)) ∙ o b k)
+        ∙ sym (ap₂ (λ (x y : Bool). joins p b && ((x || mem b after) || (not (y || mem b look) || test p b))) not_left looked)
       where
         go : (x l s t y : Bool) → (t ≡ true → y ≡ ((x && not l) && not s))
             → ((x && true) && not (((x && not l) && not s) || t && y)) ≡ (x && ((false || l) || s))
@@ -140,14 +131,14 @@ module _ (look : ℕ) {rows : List ℕ} {test : ℕ → ℕ → Bool} (j : Judge
         ∙ ap₂ (λ (x y : Bool). x && not (y && mem p out || eqb p p && mem a out))
         (d.has a p l low ∙ ap (λ (x : Bool). joins a p && ((mem a left || x) || stay a p)) was_left) (ne_eqb a p n)
         ∙ ap₂ (λ (x y : Bool). (joins a p && ((mem a left || true) || stay a p)) && not (x && y)) (eq-eqb p p refl) (o a l ∙ turned)
-        ∙ go (joins a p) (mem a left) (mem a (rest left)) (stay a p)
-        ∙ sym (ap (λ (x : Bool). joins a p && ((mem a (rest left) || x) || stay a p)) not_left)
+        ∙ go (joins a p) (mem a left) (mem a after) (stay a p)
+        ∙ sym (ap (λ (x : Bool). joins a p && ((mem a after || x) || stay a p)) not_left)
       where
         same_stay : test p a ≡ stay a p
         same_stay = j.alike p a ∙ sym (ap (λ (x : Bool). not x || test a p) (ap (λ (x : Bool). mem a look || x) looked ∙ or-true (mem a look)))
 
-        turned : goes (rest left) p a ≡ ((joins a p && not (mem a (rest left))) && not (stay a p))
-        turned = ap₂ (λ (x y : Bool). (x && not (mem a (rest left))) && not y) (j.joined p a) same_stay
+        turned : goes after p a ≡ ((joins a p && not (mem a after)) && not (stay a p))
+        turned = ap₂ (λ (x y : Bool). (x && not (mem a after)) && not y) (j.joined p a) same_stay
 
         go : (x l l' s : Bool) → ((x && ((l || true) || s)) && not ((x && not l') && not s)) ≡ (x && ((l' || false) || s))
         go false l l' s = refl
@@ -166,10 +157,10 @@ module _ (look : ℕ) {rows : List ℕ} {test : ℕ → ℕ → Bool} (j : Judge
         ∙ and-true (mem b (get_or kept a 0)) ∙ d.has a b l k
         ∙ sym (ap₂ (λ (x y : Bool). joins a b && ((x || y) || stay a b)) (still a n) (still b m))
 
-    pub judging_step : Judging look rows test (rest left) next
+    pub judging_step : Judging look rows test after next
     judging_step =
         record {
-          traversal = traversal_step d.traversal pos;
+          traversal = subst (Traversal look) (sym t.is_rest) (traversal_step d.traversal t.some);
           long = pt.long;
           less = λ a. omega (arith, pt.less a, d.less a);
           has = λ a b l k. go a b l k (ℕ_discrete a p) (ℕ_discrete b p);

@@ -2,7 +2,7 @@
 use Prim.Native.Nat.{ℕ, ◌+◌, ◌-◌, ◌^◌, ◌<◌}
 use native.Mathlib.Omega.{arith}
 use native.Mathlib.Decide.{dec_lt}
-use mathlib.Core.Path.{◌≡◌, refl, sym, ap, ap₂, ◌∙◌}
+use mathlib.Core.Path.{◌≡◌, refl, sym, ap, ap₂, ◌∙◌, subst}
 use mathlib.Core.Bool.{Bool, true, false, not, ◌&&◌, ◌||◌, and-true, or-false}
 use lib.Dec.{ltb, eqb}
 use lib.Bits.{bit_and, bit_or}
@@ -10,6 +10,7 @@ use lib.ListN.{get_or}
 use borrow.Author.Tests.{ltb-true, lt-ltb, le-ltb, eq-eqb, ne_eqb}
 use Rattle.vertex_set.specs.Ranges.{count, sum}
 use Rattle.vertex_set.specs.Sets.{mem, size, lowest}
+use Rattle.vertex_set.specs.Members.{TakesLowest}
 use Rattle.vertex_set.proofs.Booleans.{clash, iff, and_intro, and_left, and_right, fails_left, fails_right}
 use Rattle.vertex_set.proofs.Ranges.{count_cong, none_counted}
 use Rattle.vertex_set.proofs.Sizes.{count_apart}
@@ -146,14 +147,19 @@ module _ (g : SignedGraph) (look : ℕ) where
         ∙ ap (λ (x : ℕ). pending (rest left) + x)
         (count_cong (λ q. mem p left && counted p q) (counted p) 64 (λ q _. ap (λ (b : Bool). b && counted p q) (lowest_in left pos fits)))
 
-    pub counting_step : (v x : ℕ) → v ≡ lowest left
-        → x ≡ size (bit_and (bit_or (get_or g.positive v 0) (get_or g.negative v 0)) ((2 ^ 64 - 1) - rest left))
-        → Counting (rest left) (total + x)
-    counting_step v x e i =
-        record {
-          traversal = traversal_step d.traversal pos;
-          adds = omega (arith, d.adds, i, ap (λ (z : ℕ). size (row z)) e, size_row, fewer);
-        }
+  pub counting_step : {left v after total : ℕ} → TakesLowest left v after → Counting left total → (x : ℕ)
+      → x ≡ size (bit_and (bit_or (get_or g.positive v 0) (get_or g.negative v 0)) ((2 ^ 64 - 1) - after)) → Counting after (total + x)
+  counting_step {left} {v} {after} {total} t d x i =
+      subst (λ (z : ℕ). Counting z (total + x)) (sym t.is_rest) (record {
+        traversal = traversal_step d.traversal t.some;
+        adds = omega (
+          arith,
+          d.adds,
+          i ∙ ap₂ (λ (y z : ℕ). size (bit_and (bit_or (get_or g.positive y 0) (get_or g.negative y 0)) ((2 ^ 64 - 1) - z))) t.is_lowest t.is_rest,
+          size_row d t.some,
+          fewer d t.some,
+        );
+      })
 
   pub counting_end : {left total : ℕ} → Counting left total → left ≡ 0 → total ≡ looks_at g look
   counting_end {left} {total} d z =

@@ -10,11 +10,12 @@ use lib.Bits.{bit_and, and_le_l}
 use lib.ListN.{length, get_or, set, length-set}
 use lib.Seq.{get_or-set_same, get_or-set_other}
 use borrow.Author.Tests.{eqb-true, eq-eqb, ne_eqb}
-use Rattle.vertex_set.specs.Sets.{mem, lowest, single}
+use Rattle.vertex_set.specs.Sets.{mem, single}
+use Rattle.vertex_set.specs.Members.{TakesLowest}
 use Rattle.vertex_set.proofs.Booleans.{and_left}
 use Rattle.vertex_set.proofs.Membership.{mem_none, mem_and, mem_not}
 use Rattle.vertex_set.proofs.Collections.{collect_lt, mem_single}
-use Rattle.vertex_set.proofs.LowestVertex.{rest, rest_lt, mem_rest, lowest_in, lowest_lt}
+use Rattle.vertex_set.proofs.LowestVertex.{rest_lt, mem_rest, lowest_in}
 use Rattle.reduction.specs.RoundTables.{Parted}
 
 -- ---- one row
@@ -63,49 +64,30 @@ pub record Parting (before : List ℕ) (p out left : ℕ) (rows : List ℕ) : Ty
   pub less : (a : ℕ) → get_or rows a 0 ≤ get_or before a 0
   pub has : (a b : ℕ) → b < 64 → mem b (get_or rows a 0) ≡ (mem b (get_or before a 0) && not (eqb b p && (mem a out && not (mem a left))))
 
-pub parting_begin : (before : List ℕ) (p out : ℕ) → length before ≡ 64 → out < 2 ^ 64 → Parting before p out out before
-parting_begin before p out long h =
-    record {
-      fits = h;
-      sub = λ a m. m;
-      long = long;
-      less = λ a. omega arith;
-      has = λ a b _. none (mem b (get_or before a 0)) (eqb b p) (mem a out);
-    }
-  where
-    none : (x y z : Bool) → x ≡ (x && not (y && (z && not z)))
-    none false y z = refl
-    none true false z = refl
-    none true true true = refl
-    none true true false = refl
-
 module _ {before rows : List ℕ} {p out left : ℕ} (d : Parting before p out left rows) where
-  module _ (pos : 0 < left) (q one : ℕ) (e : q ≡ lowest left) (i : one ≡ single p) where
-    low : q < 64
-    low = subst (λ (z : ℕ). z < 64) (sym e) (lowest_lt left pos d.fits)
-
+  module _ {q after : ℕ} (t : TakesLowest left q after) (one : ℕ) (i : one ≡ single p) where
     one_fits : one < 2 ^ 64
     unfolding single
     one_fits = subst (λ (z : ℕ). z < 2 ^ 64) (sym i) (collect_lt (λ q. eqb q p) 64)
 
-    fewer : (a : ℕ) → mem a (rest left) ≡ (mem a left && not (eqb a q))
-    fewer a = mem_rest left pos d.fits a ∙ ap (λ (z : ℕ). mem a left && not (eqb a z)) (sym e)
+    fewer : (a : ℕ) → mem a after ≡ (mem a left && not (eqb a q))
+    fewer a = ap (mem a) t.is_rest ∙ mem_rest left t.some d.fits a ∙ ap (λ (z : ℕ). mem a left && not (eqb a z)) (sym t.is_lowest)
 
     -- q is left, and so it is a member of out
     here : (a : ℕ) → eqb a q ≡ true → (mem a out ≡ true) × (mem a left ≡ true)
-    here a t =
-        let m : mem a left ≡ true = ap (λ (z : ℕ). mem z left) (eqb-true a q t ∙ e) ∙ lowest_in left pos d.fits in
+    here a same =
+        let m : mem a left ≡ true = ap (λ (z : ℕ). mem z left) (eqb-true a q same ∙ t.is_lowest) ∙ lowest_in left t.some d.fits in
         (d.sub a m, m)
 
-    pub parting_step : Parting before p out (rest left) (set rows q (bit_and (get_or rows q 0) ((2 ^ 64 - 1) - one)))
+    pub parting_step : Parting before p out after (set rows q (bit_and (get_or rows q 0) ((2 ^ 64 - 1) - one)))
     parting_step =
         record {
-          fits = rest_lt 64 left d.fits;
+          fits = subst (λ (z : ℕ). z < 2 ^ 64) (sym t.is_rest) (rest_lt 64 left d.fits);
           sub = λ a m. d.sub a (and_left (mem a left) _ (sym (fewer a) ∙ m));
           long = length-set rows q _ ∙ d.long;
-          less = λ a. omega (arith, replaced_less rows q one d.long low a, d.less a);
+          less = λ a. omega (arith, replaced_less rows q one d.long t.is_vertex a, d.less a);
           has = λ a b k.
-              replaced_has rows q one d.long low one_fits a b k
+              replaced_has rows q one d.long t.is_vertex one_fits a b k
               ∙ ap₂ (λ (s t : Bool). s && not (eqb a q && t)) (d.has a b k) (ap (mem b) i ∙ mem_single p b k)
               ∙ go (mem b (get_or before a 0)) (eqb b p) (mem a out) (mem a left) (eqb a q) (here a)
               ∙ ap (λ (t : Bool). mem b (get_or before a 0) && not (eqb b p && (mem a out && not t))) (sym (fewer a));

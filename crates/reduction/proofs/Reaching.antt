@@ -13,6 +13,8 @@ use Rattle.vertex_set.proofs.Ranges.{seek_is}
 use Rattle.signed_graph.specs.declared.SignedGraph.{SignedGraph}
 use Rattle.signed_graph.proofs.Soundness.{Sound}
 use Rattle.signed_graph.proofs.EdgeCounts.{edges_most}
+use Rattle.reduction.specs.declared.Reduced.{Reduced}
+use Rattle.reduction.specs.RoundTables.{Follows}
 use Rattle.reduction.specs.Reductions.{unmasked, round, fallen, looks_at, start, drops_nothing, most_rounds, last_round, reduced_graph, looks}
 use Rattle.reduction.proofs.Reductions.{sound_at, fewer_at}
 use Rattle.reduction.proofs.Looks.{looks_in, looks_at_most, looks_before}
@@ -81,3 +83,32 @@ module _ {g : SignedGraph} {k : ℕ} (so : Sound g) {kept : SignedGraph} {look t
     reached_looks =
         ap₂ ◌+◌ r.looks_are same_looks ∙ ap (λ (i : ℕ). sum i (looks_in g k)) (sym (add-one r.number))
         ∙ ap (λ (i : ℕ). sum (i + 1) (looks_in g k)) (sym is_last)
+
+-- ---- the loop of the code, which counts the looks of a round before it
+
+pub record Looking (g : SignedGraph) (k : ℕ) (kept : SignedGraph) (look total : ℕ) : Type 0 where
+  pub before : ℕ
+  pub reached : Reached g k kept look before
+  pub adds : total ≡ before + looks_at kept look
+
+pub looking_first : (g : SignedGraph) (k : ℕ) (kept : SignedGraph) (look total : ℕ) → kept ≡ unmasked g → look ≡ below g.n
+    → total ≡ looks_at kept look → Looking g k kept look total
+looking_first g k kept look total e f i =
+    record { before = 0; reached = rw (e, f) (reached_first g k); adds = omega (arith, i) }
+
+module _ {g : SignedGraph} {k : ℕ} (so : Sound g) {kept : SignedGraph} {look total : ℕ} (l : Looking g k kept look total) where
+  pub looking_most : total ≤ 2017 * 2080
+  looking_most = omega (arith, l.adds, reached_most so l.reached)
+
+  pub looking_next : {next : SignedGraph} {fell : ℕ} → Follows kept k look next fell → (x : ℕ) → x ≡ looks_at next fell
+      → Looking g k next fell (total + x)
+  looking_next {next} {fell} f x e =
+      record {
+        before = total;
+        reached = rw (f.graph_is, f.look_is, l.adds) (reached_next so l.reached f.drops);
+        adds = ap (λ (z : ℕ). total + z) e;
+      }
+
+  pub looking_end : fallen kept k look ≡ 0 → ◌≡◌ {A = Reduced} (record { graph = kept; looks = total }) (record { graph = reduced_graph g k; looks = looks g k })
+  looking_end none =
+      ap₂ (λ (r : SignedGraph) (n : ℕ). record { graph = r; looks = n }) (reached_graph so l.reached none) (l.adds ∙ reached_looks so l.reached none)

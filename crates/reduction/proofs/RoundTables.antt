@@ -1,21 +1,19 @@
 -- What the code makes in a round is the round that the definition makes. Assumes nothing.
 use Prim.Native.Nat.{ℕ, ◌-◌, ◌^◌, ◌<◌}
-use native.Mathlib.Nat.{lt_of_le_of_lt}
 use native.Mathlib.Omega.{arith}
-use mathlib.Core.Path.{◌≡◌, refl, sym, ap, ap₂, ◌∙◌, subst}
-use mathlib.Core.Bool.{Bool, true, false, not, ◌&&◌, ◌||◌, cond, and_comm}
+use mathlib.Core.Path.{◌≡◌, refl, sym, ap, ap₂, ◌∙◌}
+use mathlib.Core.Bool.{Bool, true, false, not, ◌&&◌, ◌||◌, and_comm}
 use mathlib.Core.List.{List}
 use lib.Dec.{eqb}
-use lib.Bits.{bit_and, and_le_r}
-use lib.Pow.{pow_pos}
+use lib.Bits.{bit_and}
 use lib.ListN.{get_or}
 use borrow.Author.Tests.{lt-ltb, eqb-true, eq-eqb}
 use Rattle.vertex_set.specs.Ranges.{all}
-use Rattle.vertex_set.specs.Sets.{mem, collect}
+use Rattle.vertex_set.specs.Sets.{mem, collect, below}
 use Rattle.vertex_set.proofs.Booleans.{iff, and_intro, and_left, and_right, imp_intro}
 use Rattle.vertex_set.proofs.Ranges.{all_of}
-use Rattle.vertex_set.proofs.Membership.{mem_none, mem_and, mem_ones, lt_of_members}
-use Rattle.vertex_set.proofs.Collections.{collect_lt, collect_at, collect_is}
+use Rattle.vertex_set.proofs.Membership.{mem_and, lt_of_members}
+use Rattle.vertex_set.proofs.Collections.{collect_lt, collect_at, collect_is, mem_below}
 use Rattle.bit_matrix.specs.Matrices.{table_of}
 use Rattle.bit_matrix.proofs.Matrices.{table_length, table_at, table_has, table_cong}
 use Rattle.signed_graph.specs.declared.SignedGraph.{SignedGraph}
@@ -30,47 +28,33 @@ use Rattle.reduction.proofs.Striking.{mem_sifted}
 use Rattle.reduction.proofs.Rounds.{mem_fallen, same_positive_row, same_negative_row}
 use Rattle.reduction.proofs.Counts.{vertex_shares, positive_shares, negative_shares}
 
--- ---- a row
-
--- what the code leaves of the row a of p
-pub able_row : (a allowed p : ℕ) {able : ℕ} → able < 2 ^ 64 → allowed ≡ cond (mem p able) able 0
-    → bit_and a allowed ≡ collect 64 (λ q. mem q a && (mem p able && mem q able))
-able_row a allowed p {able} h e =
-    collect_is 64 (bit_and a allowed) (λ q. mem q a && (mem p able && mem q able))
-    (lt_of_le_of_lt (and_le_r a allowed) (subst (λ (z : ℕ). z < 2 ^ 64) (sym e) (fits (mem p able))))
-    (λ q _. mem_and q a allowed ∙ ap (λ (x : Bool). mem q a && x) (ap (mem q) e ∙ chosen q (mem p able)))
-  where
-    fits : (b : Bool) → cond b able 0 < 2 ^ 64
-    fits true = h
-    fits false = pow_pos 64
-
-    chosen : (q : ℕ) (b : Bool) → mem q (cond b able 0) ≡ (b && mem q able)
-    chosen q true = refl
-    chosen q false = mem_none q
-
 -- ---- a table
 
-module _ (g : SignedGraph) (k look able : ℕ)
-    (ea : able ≡ sifted (2 ^ 64 - 1) look (shares g.positive g.negative (2 ^ 64 - 1) (k - 1) (2 ^ 64 - 1) k)) where
+module _ (g : SignedGraph) (so : Sound g) (k look able : ℕ)
+    (ea : able ≡ sifted (below g.n) look (shares g.positive g.negative (2 ^ 64 - 1) (k - 1) (2 ^ 64 - 1) k)) where
   abbrev c : Collection
   c = all_edges g
 
   -- able are the vertices that stay
-  able_stays : (p : ℕ) → p < 64 → mem p able ≡ vertex_stays look (vertex_fits k c) p
+  able_stays : (p : ℕ) → p < g.n → mem p able ≡ vertex_stays look (vertex_fits k c) p
   able_stays p l =
-      ap (mem p) ea ∙ mem_sifted _ look _ p l
-      ∙ ap₂ (λ (x y : Bool). x && (not (mem p look) || y)) (mem_ones 64 p ∙ lt-ltb p 64 l) (vertex_shares g k p)
+      ap (mem p) ea ∙ mem_sifted _ look _ p (omega (arith, so.small))
+      ∙ ap₂ (λ (x y : Bool). x && (not (mem p look) || y)) (mem_below g.n p so.small ∙ lt-ltb p g.n l) (vertex_shares g k p)
 
   -- so the test of an edge comes to the definition's
-  edge_stays_law : (joins : Bool) (fits : ℕ → ℕ → Bool) (p q : ℕ) → p < 64 → q < 64 → (test : Bool) → test ≡ fits p q
+  edge_stays_law : (joins : Bool) (fits : ℕ → ℕ → Bool) (p q : ℕ) → (joins ≡ true → (p < g.n) × (q < g.n)) → (test : Bool) → test ≡ fits p q
       → ((joins && (mem p able && mem q able)) && (not (mem p (bit_and look able) || mem q (bit_and look able)) || test))
       ≡ (joins && (vertex_stays look (vertex_fits k c) p && vertex_stays look (vertex_fits k c) q && edge_stays look fits p q))
-  edge_stays_law joins fits p q l m test e =
+  edge_stays_law joins fits p q low test e =
       ap₂ (λ (x y : Bool). (joins && (mem p able && mem q able)) && (not (x || y) || test)) (mem_and p look able) (mem_and q look able)
       ∙ go joins (mem p able) (mem q able) (mem p look) (mem q look) test
-      ∙ ap (λ (x : Bool). joins && x)
-      (ap₂ ◌&&◌ (ap₂ ◌&&◌ (able_stays p l) (able_stays q m)) (ap (λ (x : Bool). not (mem p look || mem q look) || x) e))
+      ∙ where_true joins _ _ (λ j.
+      ap₂ ◌&&◌ (ap₂ ◌&&◌ (able_stays p (low j).0) (able_stays q (low j).1)) (ap (λ (x : Bool). not (mem p look || mem q look) || x) e))
     where
+      where_true : (j a b : Bool) → (j ≡ true → a ≡ b) → (j && a) ≡ (j && b)
+      where_true true a b h = h refl
+      where_true false a b h = refl
+
       go : (j a b l m t : Bool) → ((j && (a && b)) && (not (l && a || m && b) || t)) ≡ (j && (a && b && (not (l || m) || t)))
       go false a b l m t = refl
       go true false b l m t = refl
@@ -80,25 +64,25 @@ module _ (g : SignedGraph) (k look able : ℕ)
       go true true true false false t = refl
 
   -- a table of one sign, judged by fits
-  kept_is : (own : List ℕ) (fits test : ℕ → ℕ → Bool) → ((p q : ℕ) → test p q ≡ fits p q)
+  kept_is : (own : List ℕ) (fits test : ℕ → ℕ → Bool) → Table g.n own → ((p q : ℕ) → test p q ≡ fits p q)
       → table_of (λ p. stays (bit_and look able) (test p) (get_or (able_table able own) p 0) p)
       ≡ table_of (keeps (λ p q. mem q (get_or own p 0)) (vertex_stays look (vertex_fits k c)) (edge_stays look fits))
   unfolding able_table
-  kept_is own fits test e =
+  kept_is own fits test t e =
       table_cong _ _ (λ p q l m.
       ap (λ (x : Bool). x && (not (mem p (bit_and look able) || mem q (bit_and look able)) || test p q))
       (table_at (λ p q. mem q (get_or own p 0) && (mem p able && mem q able)) p q l m)
-      ∙ edge_stays_law (mem q (get_or own p 0)) fits p q l m (test p q) (e p q))
+      ∙ edge_stays_law (mem q (get_or own p 0)) fits p q (partner_below t p q) (test p q) (e p q))
 
   positive_table : kept_table (bit_and look able) (k - 2) k (able_table able g.positive) g.positive g.negative g.positive g.negative
       ≡ (round g k look).positive
   unfolding kept_table round
-  positive_table = kept_is g.positive (positive_fits k c) _ (positive_shares g k)
+  positive_table = kept_is g.positive (positive_fits k c) _ so.positives (positive_shares g k)
 
   negative_table : kept_table (bit_and look able) (k - 1) (k - 1) (able_table able g.negative) g.negative g.positive g.positive g.negative
       ≡ (round g k look).negative
   unfolding kept_table round
-  negative_table = kept_is g.negative (negative_fits k c) _ (negative_shares g k)
+  negative_table = kept_is g.negative (negative_fits k c) _ so.negatives (negative_shares g k)
 
 -- its edges may be judged once, from either vertex
 module _ (g : SignedGraph) (so : Sound g) (k able : ℕ) where
@@ -172,36 +156,31 @@ module _ (g : SignedGraph) (so : Sound g) (k look : ℕ) where
 
 -- ---- what the code puts together
 
-module _ (g : SignedGraph) (k able few fewer : ℕ) (so : sound g ≡ true) (e1 : few ≡ k - 1) (e2 : fewer ≡ k - 2) where
-  pub positive_due : (rows : List ℕ) → rows ≡ able_table able g.positive
-      → JudgedOnce rows (λ p. shares g.positive g.negative (get_or g.positive p 0) fewer (get_or g.negative p 0) k)
-  positive_due rows e = rw (e, e2) (positive_once g (to_sound g so) k able)
+module _ (g : SignedGraph) (k able less : ℕ) (so : sound g ≡ true) where
+  pub positive_due : less ≡ k - 2 → (rows : List ℕ) → rows ≡ able_table able g.positive
+      → JudgedOnce rows (λ p. shares g.positive g.negative (get_or g.positive p 0) less (get_or g.negative p 0) k)
+  positive_due i rows e = rw (e, i) (positive_once g (to_sound g so) k able)
 
-  pub negative_due : (rows : List ℕ) → rows ≡ able_table able g.negative
-      → JudgedOnce rows (λ p. shares g.positive g.negative (get_or g.negative p 0) few (get_or g.positive p 0) few)
-  negative_due rows e = rw (e, e1) (negative_once g (to_sound g so) k able)
+  pub negative_due : less ≡ k - 1 → (rows : List ℕ) → rows ≡ able_table able g.negative
+      → JudgedOnce rows (λ p. shares g.positive g.negative (get_or g.negative p 0) less (get_or g.positive p 0) less)
+  negative_due i rows e = rw (e, i) (negative_once g (to_sound g so) k able)
 
-  module _ (look : ℕ) (positive negative able-positive able-negative : List ℕ)
-      (ea : able ≡ sifted (2 ^ 64 - 1) look (shares g.positive g.negative (2 ^ 64 - 1) few (2 ^ 64 - 1) k))
-      (ip : able-positive ≡ able_table able g.positive) (iq : able-negative ≡ able_table able g.negative)
-      (ep : positive ≡ kept_table (bit_and look able) fewer k able-positive g.positive g.negative g.positive g.negative)
-      (en : negative ≡ kept_table (bit_and look able) few few able-negative g.negative g.positive g.positive g.negative) where
-    able_is : able ≡ sifted (2 ^ 64 - 1) look (shares g.positive g.negative (2 ^ 64 - 1) (k - 1) (2 ^ 64 - 1) k)
-    able_is = rw e1 at ea
+pub round_made : (g : SignedGraph) (k look able : ℕ) → sound g ≡ true → (few fewer : ℕ)
+    → able ≡ sifted (below g.n) look (shares g.positive g.negative (2 ^ 64 - 1) (k - 1) (2 ^ 64 - 1) k)
+    → few ≡ k - 1 → fewer ≡ k - 2 → (positive negative able-positive able-negative : List ℕ)
+    → able-positive ≡ able_table able g.positive → able-negative ≡ able_table able g.negative
+    → positive ≡ kept_table (bit_and look able) fewer k able-positive g.positive g.negative g.positive g.negative
+    → negative ≡ kept_table (bit_and look able) few few able-negative g.negative g.positive g.positive g.negative
+    → with_tables g positive negative ≡ round g k look
+unfolding round
+round_made g k look able so few fewer ea e1 e2 positive negative able-positive able-negative ip iq ep en =
+    ap₂ (with_tables g)
+    (ep ∙ ap₂ (λ (z : ℕ) (t : List ℕ). kept_table (bit_and look able) z k t g.positive g.negative g.positive g.negative) e2 ip
+    ∙ positive_table g (to_sound g so) k look able ea)
+    (en ∙ ap₂ (λ (z : ℕ) (t : List ℕ). kept_table (bit_and look able) z z t g.negative g.positive g.positive g.negative) e1 iq
+    ∙ negative_table g (to_sound g so) k look able ea)
 
-    graph_made : with_tables g positive negative ≡ round g k look
-    unfolding round
-    graph_made =
-        ap₂ (with_tables g)
-        (ep ∙ ap₂ (λ (z : ℕ) (t : List ℕ). kept_table (bit_and look able) z k t g.positive g.negative g.positive g.negative) e2 ip
-        ∙ positive_table g k look able able_is)
-        (en ∙ ap₂ (λ (z : ℕ) (t : List ℕ). kept_table (bit_and look able) z z t g.negative g.positive g.positive g.negative) e1 iq
-        ∙ negative_table g k look able able_is)
-
-    pub round_made : (with_tables g positive negative ≡ round g k look)
-        × (differing positive g.positive negative g.negative ≡ fallen g k look)
-    round_made = (
-      graph_made,
-      ap (λ (r : SignedGraph). differing r.positive g.positive r.negative g.negative) graph_made
-          ∙ differing_fallen g (to_sound g so) k look,
-    )
+pub fallen_made : (g : SignedGraph) → sound g ≡ true → (k look : ℕ) (next : SignedGraph) (fell : ℕ) → next ≡ round g k look
+    → fell ≡ differing next.positive g.positive next.negative g.negative → fell ≡ fallen g k look
+fallen_made g so k look next fell e f =
+    f ∙ ap (λ (r : SignedGraph). differing r.positive g.positive r.negative g.negative) e ∙ differing_fallen g (to_sound g so) k look

@@ -1,8 +1,10 @@
 -- For proofs: what the code does in a round; `Reductions` says what a round is. Assumes nothing.
-use Rattle.std.specs.Prelude.{ℕ, ◌^◌, ◌≤◌, ◌<◌, ◌≡◌, Bool, not, ◌&&◌, ◌||◌, List, leb, eqb, get_or, length}
+use Rattle.std.specs.Prelude.{ℕ, ◌^◌, ◌≤◌, ◌<◌, ◌≡◌, ◌≢◌, Bool, not, ◌&&◌, ◌||◌, List, leb, eqb, get_or, length}
 use Rattle.std.specs.Int.Bits.{bit_and}
 use Rattle.vertex_set.specs.Sets.{mem, collect, size}
 use Rattle.bit_matrix.specs.Matrices.{table_of}
+use Rattle.signed_graph.specs.declared.SignedGraph.{SignedGraph}
+use Rattle.reduction.specs.Reductions.{round, fallen}
 
 -- q's row in a table shares at least x vertices with a
 unfoldable pub reaches : List ℕ → ℕ → ℕ → ℕ → Bool
@@ -46,3 +48,9 @@ pub record Parted (before : List ℕ) (p out : ℕ) (after : List ℕ) : Type 0 
   pub less : (a : ℕ) → get_or after a 0 ≤ get_or before a 0
   pub has : (a b : ℕ) → a < 64 → b < 64
       → mem b (get_or after a 0) ≡ (mem b (get_or before a 0) && not (eqb a p && mem b out || eqb b p && mem a out))
+
+-- the round that looks at look drops an edge, keeps the graph next, and its dropped edges have the vertices of fell
+pub record Follows (g : SignedGraph) (k look : ℕ) (next : SignedGraph) (fell : ℕ) : Type 0 where
+  pub graph_is : next ≡ round g k look
+  pub look_is : fell ≡ fallen g k look
+  pub drops : fallen g k look ≢ 0

@@ -1,15 +1,8 @@
 -- What the arguments of the program ask for. Assumes nothing.
-use Rattle.std.specs.Prelude.{ℕ, Bool, true, false, ◌&&◌, List, [], ◌∷◌, eqb, ltb}
+use Rattle.std.specs.Prelude.{ℕ, List, [], ◌∷◌, ltb, bytes_eq}
 use Rattle.vertex_set.specs.Alternatives.{provided, ◌or_else◌}
 use Rattle.requests.specs.declared.Request.{Request}
 use Rattle.requests.specs.declared.Request.TheVariants.{Groups, Help, Version, Unknown}
-
--- whether two texts are the same
-unfoldable pub same_bytes : List ℕ → List ℕ → Bool
-same_bytes [] [] = true
-same_bytes [] (y ∷ l) = false
-same_bytes (x ∷ k) [] = false
-same_bytes (x ∷ k) (y ∷ l) = eqb x y && same_bytes k l
 
 -- `--help`, `--version`
 abbrev pub help_argument : List ℕ
@@ -24,6 +17,6 @@ unfoldable pub requested : ℕ → List ℕ → Request
 requested count first =
     provided (ltb count 2) Groups or_else
     provided (ltb 2 count) Unknown or_else
-    provided (same_bytes first help_argument) Help or_else
-    provided (same_bytes first version_argument) Version or_else
+    provided (bytes_eq first help_argument) Help or_else
+    provided (bytes_eq first version_argument) Version or_else
     Unknown

@@ -2,9 +2,9 @@
 #![tactic(auto)]
 
 ghost use Rattle.std.specs.Prelude.{◌≡◌};
-ghost use Rattle.requests.specs.Requests.{same_bytes, requested};
+ghost use Rattle.requests.specs.Requests.{requested};
 
-#[derive(Clone, Copy)]
+#[derive(Clone, Copy, Debug, PartialEq, Eq)]
 pub enum Request {
     // The groups of standard input.
     Groups,
@@ -14,37 +14,18 @@ pub enum Request {
     Unknown,
 }
 
-fn is_same(one: &[u8], two: &[u8]) -> bool
-    ensures { result ≡ same_bytes one.now two.now }
-{
-    if one.len() != two.len() {
-        return false;
-    }
-    let mut i: usize = 0;
-    while i < one.len() {
-        if one[i] != two[i] {
-            return false;
-        }
-        i += 1;
-    }
-    true
-}
-
 // What so many arguments ask for, the program's name among them; `first` is the one behind the name.
+#[tactic(auto, unfolding(crate::specs::Requests::requested))]
 pub fn request_of(count: usize, first: &[u8]) -> Request
     ensures { result ≡ requested count first.now }
 {
     if count < 2 {
-        return Request::Groups;
+        Request::Groups
+    } else if count == 2 && first == b"--help".as_slice() {
+        Request::Help
+    } else if count == 2 && first == b"--version".as_slice() {
+        Request::Version
+    } else {
+        Request::Unknown
     }
-    if count > 2 {
-        return Request::Unknown;
-    }
-    if is_same(first, b"--help") {
-        return Request::Help;
-    }
-    if is_same(first, b"--version") {
-        return Request::Version;
-    }
-    Request::Unknown
 }

@@ -1,6 +1,6 @@
 // The lines of the input. A case is a letter, which names a call, and then bytes, each a space and two digits in hexadecimal.
 // A line that begins with # is no case.
-ghost use Rattle.std.specs.Prelude.{◌≤◌, ◌<◌, length};
+ghost use Rattle.std.specs.Prelude.{◌<◌, ◌≤◌, IfSome, length};
 
 use crate::{calls, counting, edge_lists, listings};
 use pages::Bookmark;
@@ -8,159 +8,152 @@ use signed_graph::SignedGraph;
 use std::io::Result;
 
 // The most bytes of a case.
-pub const MOST: usize = 128;
+const MOST: usize = 128;
 
-// Stands for the count where the bytes are malformed.
-const MALFORMED: usize = 129;
+// What a case asks for.
+#[derive(Clone, Copy, Debug, PartialEq, Eq)]
+enum Call {
+    Decode,
+    OfRows,
+    Encode,
+    Reduce,
+    Largest,
+    Classify,
+    List,
+    ListAfter,
+    Record,
+    Count,
+}
 
-// The value of a digit; 16 of another byte.
-fn digit(byte: u8) -> u64 {
-    let value = byte as u64;
+// A letter that names no call.
+#[derive(Clone, Copy, Debug, PartialEq, Eq)]
+struct UnknownLetter;
+
+impl TryFrom<u8> for Call {
+    type Error = UnknownLetter;
+
+    fn try_from(letter: u8) -> std::result::Result<Call, UnknownLetter> {
+        match letter {
+            b'd' => Ok(Call::Decode),
+            b'g' => Ok(Call::OfRows),
+            b'e' => Ok(Call::Encode),
+            b'r' => Ok(Call::Reduce),
+            b'l' => Ok(Call::Largest),
+            b'c' => Ok(Call::Classify),
+            b'p' => Ok(Call::List),
+            b'a' => Ok(Call::ListAfter),
+            b'i' => Ok(Call::Record),
+            b'n' => Ok(Call::Count),
+            _ => Err(UnknownLetter),
+        }
+    }
+}
+
+impl Call {
+    // Whether the call takes so many bytes.
+    fn takes(self, count: usize) -> bool {
+        match self {
+            Call::Decode => count <= MOST,
+            Call::Encode | Call::Largest | Call::Reduce => count == 1,
+            Call::List => count == 2,
+            Call::Count => count == 5,
+            Call::OfRows => (5..=6).contains(&count),
+            Call::Classify => (2..=9).contains(&count),
+            Call::ListAfter | Call::Record => (3..=10).contains(&count),
+        }
+    }
+
+    // Makes the call on a graph, and returns the graph for the next one.
+    fn run(self, rt: HostRuntime, x: &[u8], g: SignedGraph) -> Result<SignedGraph> {
+        match self {
+            Call::Decode => edge_lists::decode(rt, x),
+            Call::OfRows => Ok(edge_lists::of_rows(x)),
+            Call::Encode => edge_lists::encode(rt, x, g),
+            Call::Reduce => calls::reduce(rt, x, g),
+            Call::Largest => calls::largest(rt, x, g),
+            Call::Classify => calls::classify(rt, x, g),
+            Call::List => listings::list(rt, x, Bookmark::Start, g),
+            Call::ListAfter => listings::list(rt, x, Bookmark::After(word(x, 2)), g),
+            Call::Record => listings::record(rt, x, g),
+            Call::Count => counting::count(rt, x, g),
+        }
+    }
+}
+
+// The value of a digit.
+// kept: `to_digit` takes A to F too.
+fn digit(byte: u8) -> Option<u8>
+    ensures { IfSome result (λ value. value < 16) }
+{
     match byte {
-        b'0'..=b'9' => value - 48,
-        b'a'..=b'f' => value - 87,
-        _ => 16,
+        b'0'..=b'9' => Some(byte - b'0'),
+        b'a'..=b'f' => Some(byte - b'a' + 10),
+        _ => None,
     }
 }
 
-// The value of a space and two digits; 256 of other bytes.
-fn value_of(space: u8, high: u64, low: u64) -> u64 {
-    if space != b' ' {
-        return 256;
+// The value of a space and two digits.
+fn value_of(text: &[u8; 3]) -> Option<u8> {
+    if text[0] != b' ' {
+        return None;
     }
-    if 15 < low {
-        return 256;
-    }
-    if 15 < high {
-        return 256;
-    }
-    16 * high + low
+    Some(16 * digit(text[1])? + digit(text[2])?)
 }
 
-// The value at the front of a text.
-fn first_value(text: &[u8]) -> u64 {
-    if text.len() < 3 {
-        return 256;
+// Reads the bytes behind the letter of a line, as many as there is space for.
+fn read_bytes<'s>(text: &[u8], space: &'s mut [u8; MOST]) -> Option<&'s [u8]> {
+    let (values, rest) = text.as_chunks::<3>();
+    if rest.len() != 0 || MOST < values.len() {
+        return None;
     }
-    value_of(text[0], digit(text[1]), digit(text[2]))
-}
-
-// Stores a value behind `count` bytes, and returns how many bytes there are then.
-fn put_byte(bytes: &mut [u8; MOST], count: usize, value: u64) -> usize {
-    if MOST <= count {
-        return MALFORMED;
+    for (byte, value) in space.iter_mut().zip(values) {
+        *byte = value_of(value)?;
     }
-    if 255 < value {
-        return MALFORMED;
-    }
-    bytes[count] = value as u8;
-    count + 1
-}
-
-// Reads the bytes behind the letter of a line, and returns how many they are.
-fn read_bytes(text: &[u8], bytes: &mut [u8; MOST]) -> usize {
-    let width: usize = 3;
-    let mut count: usize = 0;
-    let mut rest = text;
-    while width <= rest.len() {
-        count = put_byte(bytes, count, first_value(rest));
-        rest = &rest[width..];
-    }
-    if rest.len() != 0 {
-        return MALFORMED;
-    }
-    count
-}
-
-fn wide(byte: u8) -> u64 {
-    byte as u64
+    Some(&space[..values.len()])
 }
 
 // Byte i of a case; 0 where it has none.
-pub fn number(x: &[u8; MOST], i: usize) -> u64
-    requires { i < 128 }
-{
-    wide(x[i])
+pub fn byte(x: &[u8], i: usize) -> u64 {
+    match x.get(i) {
+        Some(value) => u64::from(*value),
+        None => 0,
+    }
 }
 
 // The number of eight bytes from `start` on, low byte first.
-pub fn word(x: &[u8; MOST], start: usize) -> u64
-    requires { start ≤ 64 }
-{
-    let mut value: u64 = 0;
-    let mut i: usize = start + 8;
-    while start < i {
-        i -= 1;
-        value = (value << 8) | number(x, i);
+pub fn word(x: &[u8], start: usize) -> u64 {
+    let mut bytes = [0u8; 8];
+    for (to, from) in bytes.iter_mut().zip(x.iter().skip(start)) {
+        *to = *from;
     }
-    value
+    u64::from_le_bytes(bytes)
 }
 
-// Whether a count is one from `least` to `most`.
-fn between(least: usize, count: usize, most: usize) -> bool {
-    if count < least {
-        return false;
+// The call and the bytes of a case; none where the line is malformed.
+fn read_case<'s>(letter: u8, text: &[u8], space: &'s mut [u8; MOST]) -> Option<(Call, &'s [u8])> {
+    let call = Call::try_from(letter).ok()?;
+    let x = read_bytes(text, space)?;
+    if !call.takes(x.len()) {
+        return None;
     }
-    count <= most
+    Some((call, x))
 }
 
-// Whether a letter names a call that takes so many bytes, or is that of a line which is no case.
-fn is_proper(letter: u8, count: usize) -> bool {
-    match letter {
-        b'#' => true,
-        b'd' => count <= MOST,
-        b'e' | b'l' | b'r' => count == 1,
-        b'p' => count == 2,
-        b'n' => count == 5,
-        b'g' => between(5, count, 6),
-        b'c' => between(2, count, 9),
-        b'a' | b'i' => between(3, count, 10),
-        _ => false,
+// Prints a line and what its call answers, and returns the graph for the next one. A malformed line is marked.
+pub fn run_line(rt: HostRuntime, line: &[u8], g: SignedGraph) -> Result<SignedGraph> {
+    let Some((letter, text)) = line.split_first() else {
+        return Ok(g);
+    };
+    let mut space = [0u8; MOST];
+    let case = read_case(*letter, text, &mut space);
+    if case.is_none() && *letter != b'#' {
+        print!(rt; "malformed: ")?;
     }
-}
-
-// The letter of a proper line. Another line is marked, and taken for no case.
-fn checked(rt: HostRuntime, letter: u8, count: usize) -> Result<u8> {
-    if is_proper(letter, count) {
-        return Ok(letter);
-    }
-    print!(rt; "malformed: ")?;
-    Ok(b'#')
-}
-
-// Runs a case on a graph, and returns the graph for the next one.
-fn run_case(
-    rt: HostRuntime,
-    letter: u8,
-    x: &[u8; MOST],
-    count: usize,
-    g: SignedGraph,
-) -> Result<SignedGraph> {
-    match letter {
-        b'd' => edge_lists::decode(rt, x, count),
-        b'g' => Ok(edge_lists::of_rows(x)),
-        b'e' => edge_lists::encode(rt, x, g),
-        b'r' => calls::reduce(rt, x, g),
-        b'l' => calls::largest(rt, x, g),
-        b'c' => calls::classify(rt, x, g),
-        b'p' => listings::list(rt, x, Bookmark::Start, g),
-        b'a' => listings::list(rt, x, Bookmark::After(word(x, 2)), g),
-        b'i' => listings::record(rt, x, g),
-        b'n' => counting::count(rt, x, g),
-        _ => Ok(g),
-    }
-}
-
-// Prints a line and what its call answers, and returns the graph for the next one.
-pub fn run_line(rt: HostRuntime, line: &[u8], g: SignedGraph) -> Result<SignedGraph>
-    requires { 1 ≤ length line.now }
-{
-    let mut bytes = [0u8; MOST];
-    let start: usize = 1;
-    let count = read_bytes(&line[start..], &mut bytes);
-    let letter = checked(rt, line[0], count)?;
     rt.write_all(line)?;
-    let next = run_case(rt, letter, &bytes, count, g)?;
+    let next = match case {
+        Some((call, x)) => call.run(rt, x, g)?,
+        None => g,
+    };
     println!(rt)?;
     Ok(next)
 }

@@ -1,8 +1,6 @@
 // Graphs through `count_containing`.
-ghost use Rattle.std.specs.Prelude.{◌≡◌, ◌≤◌, length, take};
-
-use crate::cases::{MOST, number, word};
-use crate::printing::{FILL, print_counts, print_outcome};
+use crate::cases::{byte, word};
+use crate::printing::{FILL, front, print_buffer, print_outcome};
 use signed_graph::SignedGraph;
 use std::io::Result;
 
@@ -10,47 +8,31 @@ use std::io::Result;
 const PLACES: usize = 300;
 
 // The set of all 64 vertices.
-const ALL: u64 = 0xffff_ffff_ffff_ffff;
+const ALL: u64 = u64::MAX;
 
 // The number of two bytes from `start` on, low byte first.
-fn two_bytes(x: &[u8; MOST], start: usize) -> u64
-    requires { start ≤ 64 }
-{
+fn two_bytes(x: &[u8], start: usize) -> u64 {
     word(x, start) % 65536
-}
-
-// The number n, or how many words there are where that is less.
-fn words_within(n: u64, words: &[u64]) -> usize
-    ensures in_bounds { result ≤ length words.now }
-    ensures taken { result ≡ length (take result words.now) }
-{
-    let length = words.len();
-    if n < length as u64 {
-        return n as usize;
-    }
-    length
 }
 
 // Puts 0, 1, 2 and so on into all places but the last.
 fn put_sets(sets: &mut [u64]) {
-    let mut i: usize = 1;
-    while i < sets.len() {
-        sets[i - 1] = (i - 1) as u64;
-        i += 1;
+    if let Some((_, others)) = sets.split_last_mut() {
+        for (i, set) in others.iter_mut().enumerate() {
+            *set = i as u64;
+        }
     }
 }
 
 // Counts into so many places for so many sets: 0, 1, 2 and so on, but the last is all 64 vertices.
-pub fn count(rt: HostRuntime, x: &[u8; MOST], g: SignedGraph) -> Result<SignedGraph> {
+pub fn count(rt: HostRuntime, x: &[u8], g: SignedGraph) -> Result<SignedGraph> {
     let mut set_space = [ALL; PLACES];
-    let sets_end = words_within(two_bytes(x, 1), &set_space);
-    let sets = &mut set_space[..sets_end];
+    let sets = front(two_bytes(x, 1), &mut set_space);
     put_sets(sets);
-    let mut count_space = [FILL as u64; PLACES];
-    let counts_end = words_within(two_bytes(x, 3), &count_space);
-    let counts = &mut count_space[..counts_end];
-    let outcome = counts::count_containing(g, number(x, 0), sets, counts);
-    print_outcome(rt, outcome.number())?;
-    print_counts(rt, counts)?;
+    let mut count_space = [u64::from(FILL); PLACES];
+    let counts = front(two_bytes(x, 3), &mut count_space);
+    let answer = counts::count_containing(g, byte(x, 0), sets, counts);
+    print_outcome(rt, signed_graph::answer_number(&answer))?;
+    print_buffer(rt, counts)?;
     Ok(g)
 }

@@ -1,6 +1,4 @@
 // Answers on standard output.
-ghost use Rattle.std.specs.Prelude.{◌≡◌, ◌≤◌, length, take};
-
 use std::io::Result;
 
 // What each byte of a buffer, and each word of an array for counts, is before it is lent to a call.
@@ -9,16 +7,31 @@ pub const FILL: u8 = 0xaa;
 // The most bytes of a buffer.
 pub const ROOM: usize = 128;
 
-// The number n, or how many bytes there are where that is less.
-pub fn within(n: u64, bytes: &[u8]) -> usize
-    ensures in_bounds { result ≤ length bytes.now }
-    ensures taken { result ≡ length (take result bytes.now) }
-{
-    let length = bytes.len();
-    if n < length as u64 {
-        return n as usize;
+// A number as the answers show it, in hexadecimal.
+// kept: LowerHex has no width of its own, and a byte has two digits.
+pub trait Shown {
+    fn print(&self, rt: HostRuntime) -> Result<()>;
+}
+
+impl Shown for u8 {
+    fn print(&self, rt: HostRuntime) -> Result<()> {
+        print!(rt; " {self:02x}")
     }
-    length
+}
+
+impl Shown for u64 {
+    fn print(&self, rt: HostRuntime) -> Result<()> {
+        print!(rt; " {self:x}")
+    }
+}
+
+// The first n items, or all of them where they are fewer.
+pub fn front<T>(n: u64, items: &mut [T]) -> &mut [T] {
+    if n < items.len() as u64 {
+        &mut items[..n as usize]
+    } else {
+        items
+    }
 }
 
 // Prints the number of a refusal, 0 where there is none, in decimal.
@@ -26,44 +39,17 @@ pub fn print_outcome(rt: HostRuntime, number: u64) -> Result<()> {
     print!(rt; " : {number}")
 }
 
-// Prints a number in hexadecimal.
-pub fn print_number(rt: HostRuntime, number: u64) -> Result<()> {
-    print!(rt; " {number:x}")
-}
-
-pub fn print_numbers(rt: HostRuntime, first: u64, second: u64) -> Result<()> {
-    print_number(rt, first)?;
-    print_number(rt, second)
-}
-
-fn print_byte(rt: HostRuntime, byte: u8) -> Result<()> {
-    print!(rt; " {byte:02x}")
-}
-
-fn print_bytes(rt: HostRuntime, bytes: &[u8]) -> Result<()> {
-    for byte in bytes {
-        print_byte(rt, *byte)?;
+// Prints all numbers, one behind the other.
+pub fn print_all<T: Shown>(rt: HostRuntime, numbers: &[T]) -> Result<()> {
+    for number in numbers {
+        number.print(rt)?;
     }
     Ok(())
 }
 
-// Prints all bytes of a buffer.
-pub fn print_buffer(rt: HostRuntime, buffer: &[u8]) -> Result<()> {
+// Prints all bytes of a buffer, or all words of an array for counts.
+pub fn print_buffer<T: Shown>(rt: HostRuntime, buffer: &[T]) -> Result<()> {
     print!(rt; " [")?;
-    print_bytes(rt, buffer)?;
-    print!(rt; " ]")
-}
-
-fn print_words(rt: HostRuntime, words: &[u64]) -> Result<()> {
-    for word in words {
-        print_number(rt, *word)?;
-    }
-    Ok(())
-}
-
-// Prints all words of an array for counts.
-pub fn print_counts(rt: HostRuntime, counts: &[u64]) -> Result<()> {
-    print!(rt; " [")?;
-    print_words(rt, counts)?;
+    print_all(rt, buffer)?;
     print!(rt; " ]")
 }

@@ -1,10 +1,21 @@
 // Sets of at most 64 vertices as u64 numbers: bit p says whether vertex p is in the set.
 // `&`, `|`, `^` and `& !` are intersection, union, what only one has, and difference; `s & (s - 1)` is s without its lowest vertex.
+// kept: a set is its number and no struct, as records and C's arrays have it.
 #![tactic(auto)]
 
 ghost use Rattle.std.specs.Prelude.{◌≡◌, leb};
 ghost use Rattle.vertex_set.specs.Sets.{mem, size, lowest, single, below, SoleMember};
 ghost use Rattle.vertex_set.specs.Order.{precedes};
+
+pub mod buffer;
+pub mod traversal;
+
+// Vertices for the left and for the right.
+#[derive(Clone, Copy, Debug, PartialEq, Eq)]
+pub struct Sides {
+    pub left: u64,
+    pub right: u64,
+}
 
 // Whether the vertex p is in s.
 pub fn contains(s: u64, p: usize) -> bool
@@ -31,6 +42,7 @@ pub fn has_two(s: u64) -> bool
 }
 
 // The lowest vertex of s; 64 where it has none.
+// kept: 64 for none is what trailing zeros give, the form that document 01 names.
 pub fn lowest(s: u64) -> usize
     ensures { result ≡ lowest s }
 {
@@ -62,15 +74,16 @@ pub fn comes_before(a: u64, b: u64) -> bool
     contains(a, lowest(a ^ b))
 }
 
+// The members of s, ascending.
+pub fn members(s: u64) -> traversal::Members
+    ensures { result.left ≡ s }
+{
+    traversal::Members { left: s }
+}
+
 // The set s where it has one member, else the empty set.
 pub fn sole_member(s: u64) -> u64
     ensures { SoleMember s result }
 {
-    if s == 0 {
-        return 0;
-    }
-    if s & (s - 1) == 0 {
-        return s;
-    }
-    0
+    if has_two(s) { 0 } else { s }
 }

@@ -5,29 +5,19 @@ ghost use Rattle.std.specs.Prelude.{◌≡◌, ◌++◌, ◌≤◌, length, take
 ghost use Rattle.words.specs.Words.{word_bytes, word_value};
 
 // Writes the 8 bytes of x, low byte first.
+#[tactic(auto, using(crate::proofs::Words::word_written))]
 pub fn write_word(x: u64, out: &mut [u8])
     requires { 8 ≤ length out.old }
     ensures { out.new ≡ word_bytes 8 x ++ drop 8 out.old }
 {
-    let mut left = x;
-    let mut at: usize = 0;
-    while at < 8 {
-        out[at] = (left % 256) as u8;
-        left = left >> 8;
-        at += 1;
-    }
+    out[..8].copy_from_slice(&x.to_le_bytes());
 }
 
 // The number in the first 8 bytes, low byte first.
+#[tactic(auto, using(crate::proofs::Words::word_read))]
 pub fn read_word(bytes: &[u8]) -> u64
     requires { 8 ≤ length bytes.now }
     ensures { result ≡ word_value (take 8 bytes.now) }
 {
-    let mut value: u64 = 0;
-    let mut i: usize = 8;
-    while 0 < i {
-        i -= 1;
-        value = 256 * value + bytes[i] as u64;
-    }
-    value
+    u64::from_le_bytes(*bytes.first_chunk().unwrap())
 }

@@ -1,34 +1,19 @@
 -- `bounds::bound_from` meets its contract. Assumes nothing.
-use native.Mathlib.Omega.{arith}
-use mathlib.Core.Path.{sym, ◌∙◌}
-use borrow.Author.Rules.{rules}
+use Rattle.std.proofs.Common.{true, arith, sym, ◌∙◌, refl}
 use Rattle.bounds.proofs.SizeTables.{bound_passes, bound_first, bound_stays, bound_grows}
 use Rattle.bounds.proofs.bound_from.Goals as goal
 
-pub returns-then-not-contains : goal.returns-then-not-contains
-returns-then-not-contains c =
-    let a = c.args in record {
-      upper_bound = omega arith;
-      for_sound = bound_passes a.table.now a.positive.now a.negative.now a.v a.all a.above a.most
-          (sym c.contains.ensures ∙ c.if-not-contains.true);
-    }
+pub returns-then-not-contains-clause-for_sound : goal.returns-then-not-contains-clause-for_sound
+returns-then-not-contains-clause-for_sound c =
+    bound_passes _ _ _ _ _ _ _ (sym c.contains.ensures ∙ c.if-not-contains.true)
 
-pub returns-then-most-eq0 : goal.returns-then-most-eq0
-returns-then-most-eq0 c =
-    let a = c.args in record {
-      upper_bound = omega arith;
-      for_sound = bound_first a.table.now a.positive.now a.negative.now a.v a.all a.above a.most c.if-most-eq0.true;
-    }
+pub returns-then-most-eq0-clause-for_sound : goal.returns-then-most-eq0-clause-for_sound
+returns-then-most-eq0-clause-for_sound c = bound_first _ _ _ _ _ _ _ c.if-most-eq0.true
 
-pub returns-then-found : goal.returns-then-found
-returns-then-found c =
-    let a = c.args in
-    let found = c.at_most-found in record {
-      upper_bound = omega arith;
-      for_sound = bound_stays a.table.now a.positive.now a.negative.now a.v a.all a.above a.most (search rules) (found.ensures c.if-found.true);
-    }
+pub returns-in-Some-clause-for_sound : goal.returns-in-Some-clause-for_sound
+returns-in-Some-clause-for_sound c =
+    let is = c.partners-partners.ensures in
+    bound_stays _ _ _ _ _ _ _ (omega arith) _ is (c.in-Some.ensures (refl {a = true}))
 
-pub returns : goal.returns
-returns c =
-    let a = c.args in
-    record { upper_bound = omega arith; for_sound = bound_grows a.table.now a.positive.now a.negative.now a.v a.all a.above a.most }
+pub returns-in-None-clause-for_sound : goal.returns-in-None-clause-for_sound
+returns-in-None-clause-for_sound c = bound_grows _ _ _ _ _ _ _

@@ -1,16 +1,12 @@
 -- `bounds::branch_vertex` meets its contract. Assumes nothing.
+use Rattle.std.proofs.Common.{arith}
 use Rattle.vertex_set.proofs.Membership.{meet_left}
 use Rattle.bounds.proofs.Branches.{lowest_among}
 use Rattle.bounds.proofs.branch_vertex.Goals as goal
 
 pub returns-then-some-ne0 : goal.returns-then-some-ne0
-returns-then-some-ne0 c some =
-    let a = c.args in
-    lowest_among a.left a.right c.ranges.left.fits c.ranges.right.fits some c.lowest.result _
-    (λ p. meet_left p _ _) c.if-some-ne0.true c.lowest.ensures
+returns-then-some-ne0 g c some =
+    lowest_among c.args.candidates (omega arith) (omega arith) _ _ (λ p. meet_left p _ _) c.if-some-ne0.true c.lowest.ensures
 
 pub returns : goal.returns
-returns c some =
-    let a = c.args in
-    lowest_among a.left a.right c.ranges.left.fits c.ranges.right.fits some c.lowest-2.result _
-    (λ p m. m) some c.lowest-2.ensures
+returns g c some = lowest_among c.args.candidates (omega arith) (omega arith) _ _ (λ p m. m) some c.lowest-2.ensures

@@ -4,7 +4,7 @@ use Rattle.bounds.proofs.Colours.{Picking}
 use Rattle.bounds.proofs.independent.Given as goal
 
 abbrev pub invariant-loop-left : goal.invariant-loop-left
-invariant-loop-left l = Picking l.positive l.negative l.near l.members l.apart l.left
+invariant-loop-left l = Picking l.g.positive l.g.negative l.near l.members l.apart l.left
 
 abbrev pub decreases-loop-left : goal.decreases-loop-left
 decreases-loop-left l = size l.left

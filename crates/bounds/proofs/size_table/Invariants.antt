@@ -3,7 +3,4 @@ use Rattle.bounds.proofs.SizeTables.{Tabling}
 use Rattle.bounds.proofs.size_table.Given as goal
 
 abbrev pub invariant-loop-v : goal.invariant-loop-v
-invariant-loop-v l = Tabling l.n l.all l.positive l.negative l.table l.above l.most l.v
-
-abbrev pub decreases-loop-v : goal.decreases-loop-v
-decreases-loop-v l = l.v
+invariant-loop-v l = Tabling l.n l.all l.g.positive l.g.negative l.table l.above l.most l.v

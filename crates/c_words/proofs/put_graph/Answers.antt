@@ -1,39 +1,42 @@
 -- `c_words::put_graph` meets its contract. n, then the positive rows, then the negative ones, then the masked set. Assumes nothing.
-use Prim.Native.Nat.{ℕ, ◌-◌, ◌≤◌}
+use Prim.Native.Nat.{ℕ, ◌+◌, ◌≤◌}
 use native.Mathlib.Omega.{arith}
-use mathlib.Core.Path.{◌≡◌, refl, sym}
-use mathlib.Core.List.{List, [], ◌∷◌, ◌++◌}
+use mathlib.Core.Path.{◌≡◌, sym, ap, ap₂, ◌∙◌}
+use mathlib.Core.List.{List, [], ◌∷◌, ◌++◌, append_assoc}
 use lib.ListN.{length, take, drop, set, length-append}
+use lib.Seq.{take_at, drop_at, drop-drop}
 use borrow.Rule.Slice.PartMut.{put_mid}
-use Rattle.vertex_set.proofs.Buffers.{Laid, laid_first, laid_piece, laid_store, laid_end}
+use Rattle.vertex_set.proofs.Buffers.{Laid, laid_start, laid_store, laid_end}
 use Rattle.c_words.specs.Graphs.{graph_words}
 use Rattle.c_words.proofs.put_graph.Goals as goal
 
-module _ (n masked : ℕ) (p q out : List ℕ) (lp : length p ≡ 64) (lq : length q ≡ 64) (room : graph_words ≤ length out) where
-  abbrev behind : List ℕ
-  behind = p ++ (q ++ masked ∷ [])
+-- a piece is written into a part of its length
+laid_table : {whole before out : List ℕ} {at : ℕ} (piece left last : List ℕ) → Laid whole before out at (piece ++ left)
+    → length piece ≡ 64 → last ≡ piece → Laid whole before (put_mid at 64 out last) (at + 64) left
+laid_table {whole} {before} {out} {at} piece left last l long is =
+    record {
+      done = l.done ++ piece;
+      place = length-append l.done piece ∙ ap₂ (λ (x y : ℕ). x + y) l.place long;
+      whole_is = l.whole_is ∙ sym (append_assoc l.done piece left);
+      out_is =
+          ap₂ (λ (x y : List ℕ). take at x ++ (y ++ drop 64 (drop at x))) l.out_is is
+          ∙ ap₂ (λ (x y : List ℕ). x ++ (piece ++ drop 64 y)) (take_at l.done (drop at before) at l.place)
+          (drop_at l.done (drop at before) at l.place)
+          ∙ ap (λ (x : List ℕ). l.done ++ (piece ++ x)) (drop-drop 64 at before)
+          ∙ sym (append_assoc l.done piece (drop (at + 64) before));
+      fits = l.fits;
+    }
 
-  -- behind n, and behind the positive rows
-  first : (o : List ℕ) → o ≡ n ∷ drop 1 out → Laid (n ∷ behind) out o 1 behind
-  first o is =
-      laid_first (n ∷ []) behind out o 1 (omega (arith, length-append p (q ++ masked ∷ []), length-append q (masked ∷ []))) refl is
-
-  second : (o : List ℕ) → o ≡ n ∷ drop 1 out → (last : List ℕ) → last ≡ p ++ drop (length p) (take (length o - 1) (drop 1 o))
-      → (o2 : List ℕ) → o2 ≡ put_mid 1 (length o - 1) o last → Laid (n ∷ behind) out o2 65 (q ++ masked ∷ [])
-  second o is last l o2 e = rw e (laid_piece p (q ++ masked ∷ []) last 64 (first o is) (sym lp) l)
-
-  -- with the negative rows and the masked set
-  stored : (o : List ℕ) → o ≡ n ∷ drop 1 out → (last : List ℕ) → last ≡ p ++ drop (length p) (take (length o - 1) (drop 1 o))
-      → (o2 : List ℕ) → o2 ≡ put_mid 1 (length o - 1) o last
-      → (final : List ℕ) → final ≡ q ++ drop (length q) (take (length o2 - 65) (drop 65 o2))
-      → Laid (n ∷ behind) out (set (put_mid 65 (length o2 - 65) o2 final) 129 masked) 130 []
-  stored o is last l o2 e final f =
-      laid_store masked [] (laid_piece q (masked ∷ []) final 64 (second o is last l o2 e) (sym lq) f)
+written : (n masked : ℕ) (p q out p' q' : List ℕ) → length p ≡ 64 → length q ≡ 64 → graph_words ≤ length out → p' ≡ p → q' ≡ q
+    → Laid (n ∷ (p ++ (q ++ masked ∷ []))) out (set (put_mid 65 64 (put_mid 1 64 (set out 0 n) p') q') 129 masked) 130 []
+written n masked p q out p' q' lp lq room ep eq =
+    let whole = n ∷ (p ++ (q ++ masked ∷ [])) in
+    let fits : length whole ≤ length out = omega (arith, length-append p (q ++ masked ∷ []), length-append q (masked ∷ [])) in
+    let start = laid_store n (p ++ (q ++ masked ∷ [])) (laid_start whole out fits) in
+    laid_store masked [] (laid_table q (masked ∷ []) q' (laid_table p (q ++ masked ∷ []) p' start lp ep) lq eq)
 
 pub returns : goal.returns
 returns c =
-    let g = c.args.g in
-    let lp : length g.positive ≡ 64 = omega arith in
-    let lq : length g.negative ≡ 64 = omega arith in
-    laid_end (stored g.n g.masked g.positive g.negative c.args.out.now lp lq c.requires _ c.put_words.ensures _ c.put_words-2.ensures
-    _ refl _ c.put_words-3.ensures)
+    let g = c.args.g.now in
+    laid_end (written g.n g.masked g.positive g.negative c.args.out.now _ _ (omega arith) (omega arith) c.requires
+    c.copy_from_slice.ensures.after c.copy_from_slice-2.ensures.after)

@@ -45,60 +45,60 @@ module _ (g : SignedGraph) (out : List ℕ) (room : length (canonical g) ≤ len
     filled {end} {m} f at_end = laid_piece (masks g) (0xff ∷ []) end m joined f at_end
 
 pub overflow_cast-out : goal.overflow_cast-out
-overflow_cast-out c = omega (arith, (to_sound c.args.g c.requires.0).small)
+overflow_cast-out c = omega (arith, (to_sound c.args.g.graph.now c.args.g.is_sound).small)
 
 pub bounds-out-1 : goal.bounds-out-1
 bounds-out-1 c = simp length-set (omega arith)
 
 pub slice_bounds-put_rows-count : goal.slice_bounds-put_rows-count
 slice_bounds-put_rows-count c =
-    let e = opened c.args.g c.args.out.now c.requires.1 in
+    let e = opened c.args.g.graph.now c.args.out.now c.requires in
     omega (arith, laid_room e, laid_long e)
 
 pub slice_bounds-put_rows-start : goal.slice_bounds-put_rows-start
 slice_bounds-put_rows-start c =
-    let e = opened c.args.g c.args.out.now c.requires.1 in
+    let e = opened c.args.g.graph.now c.args.out.now c.requires in
     omega (arith, laid_room e, laid_long e)
 
 pub put_rows-edges-requires : goal.put_rows-edges-requires
 put_rows-edges-requires c =
-    let g = c.args.g in
-    (c.requires.0, piece_room (edges g) (masks g ++ 0xff ∷ []) (opened g c.args.out.now c.requires.1))
+    let g = c.args.g.graph.now in
+    (piece_room (edges g) (masks g ++ 0xff ∷ []) (opened g c.args.out.now c.requires))
 
 pub overflow_add-behind : goal.overflow_add-behind
 overflow_add-behind c =
     let r = c.put_rows-edges in
-    omega (arith, laid_room (joined c.args.g c.args.out.now c.requires.1 r.ensures.length r.ensures.bytes))
+    omega (arith, laid_room (joined c.args.g.graph.now c.args.out.now c.requires r.ensures.length r.ensures.bytes))
 
 pub slice_bounds-put_masks-count : goal.slice_bounds-put_masks-count
 slice_bounds-put_masks-count c =
     let r = c.put_rows-edges in
-    let e = joined c.args.g c.args.out.now c.requires.1 r.ensures.length r.ensures.bytes in
+    let e = joined c.args.g.graph.now c.args.out.now c.requires r.ensures.length r.ensures.bytes in
     omega (arith, laid_room e, laid_long e)
 
 pub slice_bounds-put_masks-start : goal.slice_bounds-put_masks-start
 slice_bounds-put_masks-start c =
     let r = c.put_rows-edges in
-    let e = joined c.args.g c.args.out.now c.requires.1 r.ensures.length r.ensures.bytes in
+    let e = joined c.args.g.graph.now c.args.out.now c.requires r.ensures.length r.ensures.bytes in
     omega (arith, laid_room e, laid_long e)
 
 pub put_masks-masks-requires : goal.put_masks-masks-requires
 put_masks-masks-requires c =
     let r = c.put_rows-edges in
-    let g = c.args.g in
-    piece_room (masks g) (0xff ∷ []) (joined g c.args.out.now c.requires.1 r.ensures.length r.ensures.bytes)
+    let g = c.args.g.graph.now in
+    piece_room (masks g) (0xff ∷ []) (joined g c.args.out.now c.requires r.ensures.length r.ensures.bytes)
 
 pub overflow_add-close : goal.overflow_add-close
 overflow_add-close c =
     let r = c.put_rows-edges in
     let m = c.put_masks-masks in
-    omega (arith, laid_room (filled c.args.g c.args.out.now c.requires.1 r.ensures.length r.ensures.bytes m.ensures.length m.ensures.bytes))
+    omega (arith, laid_room (filled c.args.g.graph.now c.args.out.now c.requires r.ensures.length r.ensures.bytes m.ensures.length m.ensures.bytes))
 
 pub bounds-out-close : goal.bounds-out-close
 bounds-out-close c =
     let r = c.put_rows-edges in
     let m = c.put_masks-masks in
-    let e = filled c.args.g c.args.out.now c.requires.1 r.ensures.length r.ensures.bytes m.ensures.length m.ensures.bytes in
+    let e = filled c.args.g.graph.now c.args.out.now c.requires r.ensures.length r.ensures.bytes m.ensures.length m.ensures.bytes in
     omega (arith, laid_room e, laid_long e)
 
 pub shape_of-out : goal.shape_of-out
@@ -106,11 +106,11 @@ shape_of-out c =
     let r = c.put_rows-edges in
     let m = c.put_masks-masks in
     laid_long (laid_store 0xff []
-    (filled c.args.g c.args.out.now c.requires.1 r.ensures.length r.ensures.bytes m.ensures.length m.ensures.bytes))
+    (filled c.args.g.graph.now c.args.out.now c.requires r.ensures.length r.ensures.bytes m.ensures.length m.ensures.bytes))
 
 pub returns : goal.returns
 returns c =
     let r = c.put_rows-edges in
     let m = c.put_masks-masks in
     laid_end (laid_store 0xff []
-    (filled c.args.g c.args.out.now c.requires.1 r.ensures.length r.ensures.bytes m.ensures.length m.ensures.bytes))
+    (filled c.args.g.graph.now c.args.out.now c.requires r.ensures.length r.ensures.bytes m.ensures.length m.ensures.bytes))

@@ -13,10 +13,10 @@ use Rattle.clique.proofs.classify_sound.Goals as goal
 use Rattle.clique.proofs.classify_sound.Goals.{Else-size-eq1}
 
 -- where s has two vertices or more, all below n
-past-alone : (c : Else-size-eq1) → verdict c.args.g c.args.k c.args.s ≡ from_masks c.args.g c.args.k c.args.s
+past-alone : (c : Else-size-eq1) → verdict c.args.g.graph.now c.args.k c.args.s ≡ from_masks c.args.g.graph.now c.args.k c.args.s
 past-alone c =
     let s = c.args.s in
-    past_range c.args.g c.requires s c.below.result _ c.ranges.s.fits c.below.ensures refl c.args.k
+    past_range c.args.g.graph.now c.args.g.is_sound s c.below.result _ c.ranges.s.fits c.below.ensures refl c.args.k
     c.if-s-eq0.false c.if-outside-ne0.false
     ∙ passes_by (eqb (size s) 1) _ _ (ne_eqb (size s) 1 (λ e. c.if-size-eq1.false (c.size.ensures ∙ e)))
 
@@ -28,14 +28,14 @@ pub returns-then-outside-ne0 : goal.returns-then-outside-ne0
 returns-then-outside-ne0 c =
     let u = c.below in
     ap OutOfRange c.lowest.ensures
-    ∙ sym (says_out_of_range c.args.g c.requires c.args.s u.result _ c.ranges.s.fits u.ensures refl c.args.k
+    ∙ sym (says_out_of_range c.args.g.graph.now c.args.g.is_sound c.args.s u.result _ c.ranges.s.fits u.ensures refl c.args.k
     c.if-s-eq0.false (search rules))
 
 pub returns-then-size-eq1 : goal.returns-then-size-eq1
 returns-then-size-eq1 c =
     let u = c.below in
     let s = c.args.s in
-    sym (past_range c.args.g c.requires s u.result _ c.ranges.s.fits u.ensures refl c.args.k
+    sym (past_range c.args.g.graph.now c.args.g.is_sound s u.result _ c.ranges.s.fits u.ensures refl c.args.k
     c.if-s-eq0.false c.if-outside-ne0.false
     ∙ applies (eqb (size s) 1) _ _ (eq-eqb (size s) 1 (sym c.size.ensures ∙ c.if-size-eq1.true)))
 
@@ -43,16 +43,18 @@ pub returns-then-masked-ne0 : goal.returns-then-masked-ne0
 returns-then-masked-ne0 c =
     ap Masked c.lowest-then-masked-ne0.ensures
     ∙ sym (past-alone (goal.at.returns-then-masked-ne0 c).Else-size-eq1
-    ∙ says_masked c.args.g c.requires c.args.s c.below.result _ c.ranges.s.fits c.below.ensures refl _ refl c.args.k (search rules))
+    ∙ says_masked c.args.g.graph.now c.args.g.is_sound c.args.s c.below.result _ c.ranges.s.fits c.below.ensures refl _ refl c.args.k (search rules))
 
-pub classify_edges-requires : goal.classify_edges-requires
-classify_edges-requires c =
-    masks_known c.args.g c.requires c.args.s c.below.result _ c.ranges.s.fits c.below.ensures refl _ refl
-    c.if-s-eq0.false c.if-outside-ne0.false c.if-masked-ne0.false
+pub invariant_of-candidate : goal.invariant_of-candidate
+invariant_of-candidate c = record {
+  known =
+      masks_known c.args.g.graph.now c.args.g.is_sound c.args.s c.below.result _ c.ranges.s.fits c.below.ensures refl _ refl
+      c.if-s-eq0.false c.if-outside-ne0.false c.if-masked-ne0.false;
+}
 
 pub returns : goal.returns
 returns c =
-    c.classify_edges.ensures
+    c.classify.ensures
     ∙ sym (past-alone (goal.at.returns c).Else-size-eq1
-    ∙ past_masks c.args.g c.requires c.args.s c.below.result _ c.ranges.s.fits c.below.ensures refl _ refl c.args.k
+    ∙ past_masks c.args.g.graph.now c.args.g.is_sound c.args.s c.below.result _ c.ranges.s.fits c.below.ensures refl _ refl c.args.k
     c.if-masked-ne0.false)

@@ -1,10 +1,6 @@
 -- `clique::common` meets its contract. The rows of the members that are not left are joined. Assumes nothing.
-use Rattle.vertex_set.specs.Sets.{size}
 use Rattle.clique.proofs.CommonParts.{Joined}
 use Rattle.clique.proofs.common.Given as goal
 
-abbrev pub invariant-loop-left : goal.invariant-loop-left
-invariant-loop-left l = Joined l.rows l.s l.start l.left l.part
-
-abbrev pub decreases-loop-left : goal.decreases-loop-left
-decreases-loop-left l = size l.left
+abbrev pub invariant-loop-p : goal.invariant-loop-p
+invariant-loop-p l = Joined l.rows l.s l.start l.p-iterator.left l.part

@@ -1,25 +1,21 @@
--- `clique::large_enough` meets its contract. For k = 0 two vertices in all are enough, and from k = 1 on k each. Assumes nothing.
-use mathlib.Core.Path.{sym, ap, ◌∙◌}
-use mathlib.Core.Bool.{Bool, ◌&&◌}
-use native.Mathlib.Nat.{pos_of_ne-zero}
+-- `clique::large_enough` meets its contract. Assumes nothing.
 use native.Mathlib.Omega.{arith}
-use borrow.Author.Tests.{le-leb}
-use lib.Dec.{leb}
-use Rattle.vertex_set.specs.Sets.{size}
-use Rattle.vertex_set.proofs.Booleans.{refute}
-use Rattle.clique.proofs.Groups.{floor_least, floor_at_zero, floor_from_one}
+use Rattle.std.proofs.lemmas.Bool.Decides.{nat_tests}
+use Rattle.vertex_set.proofs.SizeBounds.{size_64}
+use Rattle.clique.specs.Groups.{floor}
 use Rattle.clique.proofs.large_enough.Goals as goal
 
+pub overflow_add-result : goal.overflow_add-result
+overflow_add-result c = omega (arith, c.size.ensures, c.size-then-k-eq0.ensures, size_64 c.args.left, size_64 c.args.right)
+
 pub returns-then-k-eq0 : goal.returns-then-k-eq0
-returns-then-k-eq0 c = c.have_two.ensures ∙ sym (floor_at_zero _ _ _ c.if-k-eq0.true)
+unfolding floor
+returns-then-k-eq0 c = grind (arith, nat_tests)
 
-pub returns-then-size-k : goal.returns-then-size-k
-returns-then-size-k c = sym (refute _ (λ e. omega (arith, c.if-size-k.true, c.size.ensures, (floor_least _ _ _ e).0)))
+pub returns-then-k-size : goal.returns-then-k-size
+unfolding floor
+returns-then-k-size c = grind (arith, nat_tests)
 
-pub returns : goal.returns
-returns c =
-    let a = c.args in
-    ap (leb a.k) c.size-2.ensures
-    ∙ sym (floor_from_one a.k (size a.left) (size a.right) (pos_of_ne-zero c.if-k-eq0.false)
-    ∙ ap (λ (b : Bool). b && leb a.k (size a.right))
-    (le-leb a.k (size a.left) (omega (arith, c.if-size-k.false, c.size.ensures))))
+pub returns-else-k-size : goal.returns-else-k-size
+unfolding floor
+returns-else-k-size c = grind (arith, nat_tests)

@@ -1,32 +1,20 @@
--- `counts::count_containing` meets its contract. Each test picks the definitions' case. Assumes nothing.
-use mathlib.Core.Path.{sym, ◌∙◌}
-use borrow.Author.Tests.{lt-ltb, le-ltb}
-use Rattle.counts.proofs.Calls.{refused, too_short, too_many, counted}
+-- `counts::count_containing` meets its contract. From zeros the counts come to those of all groups. Assumes nothing.
+use Rattle.std.proofs.Common.{sym, ap, ◌∙◌, ◌≡◌, ℕ, length, take, replicate, arith}
+use Rattle.std.proofs.Math.ListN.{length-take}
+use Rattle.signed_graph.specs.Calls.{passed, check_of}
+use Rattle.signed_graph.proofs.Soundness.{to_sound}
+use Rattle.signed_graph.proofs.Calls.{accepted_sound}
+use Rattle.clique.specs.Listing.{listing}
+use Rattle.group_pages.proofs.Counts.{listing_few}
+use Rattle.counts.proofs.Calls.{counted}
+use Rattle.counts.proofs.Tallies.{fold_zeros}
 use Rattle.counts.proofs.count_containing.Goals as goal
 
-pub returns-then-counts-sets : goal.returns-then-counts-sets
-returns-then-counts-sets c =
+pub returns-clause-counts : goal.returns-clause-counts
+returns-clause-counts c =
     let a = c.args in
-    too_short a.g a.k a.sets.now a.counts.now (sym c.check_call.ensures.answer ∙ c.in-Accepted.is) (lt-ltb _ _ c.if-counts-sets.true)
-
-pub returns-then-sets-gt-MOST_SETS : goal.returns-then-sets-gt-MOST_SETS
-returns-then-sets-gt-MOST_SETS c =
-    let a = c.args in
-    too_many a.g a.k a.sets.now a.counts.now (sym c.check_call.ensures.answer ∙ c.in-Accepted.is)
-    (le-ltb _ _ c.if-counts-sets.false) (lt-ltb _ _ c.if-sets-gt-MOST_SETS.true)
-
-pub count_groups-requires : goal.count_groups-requires
-count_groups-requires c =
-    (sym c.check_call.ensures.answer ∙ c.in-Accepted.is, c.if-counts-sets.false)
-
-pub returns-in-Refused : goal.returns-in-Refused
-returns-in-Refused c =
-    let a = c.args in
-    refused a.g a.k a.sets.now a.counts.now _ (sym c.check_call.ensures.answer ∙ c.in-Refused.is)
-
-pub returns-else-sets-gt-MOST_SETS : goal.returns-else-sets-gt-MOST_SETS
-returns-else-sets-gt-MOST_SETS c =
-    let a = c.args in
-    let r = counted a.g a.k a.sets.now a.counts.now (sym c.check_call.ensures.answer ∙ c.in-Accepted.is)
-    (le-ltb _ _ c.if-counts-sets.false) (le-ltb _ _ c.if-sets-gt-MOST_SETS.false) in
-    record { answer = r.answer; counts = c.count_groups.ensures ∙ r.counts; number = r.number }
+    let passes : check_of a.g a.k ≡ passed = sym c.check_call.ensures.answer ∙ c.in_ok-check_call.was in
+    let front : length (take (length a.sets.now) a.counts.now) ≡ length a.sets.now = simp length-take (omega arith) in
+    let zeros : c.fill.new.self ≡ replicate (length a.sets.now) 0 = c.fill.ensures.after (λ y e. e) ∙ ap (λ (n : ℕ). replicate n 0) front in
+    let all = fold_zeros (listing a.g a.k) a.sets.now (listing_few a.g (to_sound a.g (accepted_sound a.g a.k passes)) a.k) in
+    rw (c.count_groups.ensures, zeros, all) (sym (counted a.g a.k a.sets.now a.counts.now passes (omega arith) (omega arith)))

@@ -6,9 +6,9 @@ use Rattle.group_pages.specs.Records.{record_width, record_of}
 use Rattle.group_pages.proofs.Records.{record_wide}
 use Rattle.group_pages.proofs.put_group.Goals as goal
 
-pub returns-then-count-room : goal.returns-then-count-room
-returns-then-count-room c m =
-    adds_next item_set record_of record_width (omega arith) record_wide m _ _ _ _ _ c.if-count-room.true c.write_record.ensures
+pub returns-then-out-page : goal.returns-then-out-page
+returns-then-out-page c m = adds_more item_set record_of record_width (omega arith) record_wide m _ _ _ c.if-out-page.true
 
-pub returns-else-count-room : goal.returns-else-count-room
-returns-else-count-room c m = adds_more item_set record_of record_width (omega arith) record_wide m _ _ _ _ c.if-count-room.false
+pub returns : goal.returns
+returns c m =
+    adds_next item_set record_of record_width (omega arith) record_wide m _ _ _ _ c.if-out-page.false c.write_record.ensures

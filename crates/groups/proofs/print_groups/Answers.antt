@@ -3,8 +3,7 @@ use Rattle.std.proofs.Common.{ℕ, ◌+◌, ◌^◌, ◌<◌, ◌≡◌, length,
 use mathlib.Core.List.{foldl}
 use lib.ListN.{length-take}
 use Rattle.signed_graph.specs.declared.SignedGraph.{SignedGraph}
-use Rattle.signed_graph.specs.declared.Check.TheVariants.{Accepted}
-use Rattle.signed_graph.specs.Calls.{check_of}
+use Rattle.signed_graph.specs.Calls.{passed, check_of}
 use Rattle.signed_graph.proofs.Soundness.{to_sound}
 use Rattle.signed_graph.proofs.Calls.{accepted_sound}
 use Rattle.pages.specs.declared.Bookmark.{Bookmark}
@@ -18,7 +17,7 @@ use Rattle.group_pages.proofs.Walks.{WalkedGroups, page_count, page_fewer, group
 use Rattle.output_text.specs.PageTexts.{page_records, page_room}
 use Rattle.groups.proofs.print_groups.Goals as goal
 
-module _ (g : SignedGraph) (k : ℕ) (accepted : check_of g k ≡ Accepted) (from : Bookmark) (count : ℕ) (page : Page)
+module _ (g : SignedGraph) (k : ℕ) (accepted : check_of g k ≡ passed) (from : Bookmark) (count : ℕ) (page : Page)
     (walked : WalkedGroups g k one_more 0 from count) (is : page ≡ page_of g k from page_room) where
   counted : count + page.count ≡ foldl one_more count (take page_records (due_groups g k from))
   counted =
@@ -47,28 +46,24 @@ module _ (g : SignedGraph) (k : ℕ) (accepted : check_of g k ≡ Accepted) (fro
         fold_count 0 (listing g k),
       )
 
-pub loop-rt-init : goal.loop-rt-init
-loop-rt-init c = walked_start item_set _ one_more 0
+pub loop-page-init : goal.loop-page-init
+loop-page-init c = walked_start item_set _ one_more 0
 
 pub overflow_add-count : goal.overflow_add-count
 overflow_add-count c =
-    omega (
-      arith,
-      few c.args.g c.args.k c.requires c.loop-rt.from c.loop-rt.count c.print_page-printed.result.page c.loop-rt.invariant
-          c.print_page-printed.ensures,
-    )
+    let l = c.loop-page in
+    omega (arith, few c.args.g c.args.k c.requires l.from l.count c.in_ok-page.page l.invariant c.in_ok-page.ensures)
 
 pub returns-in_default : goal.returns-in_default
 returns-in_default c =
-    last c.args.g c.args.k c.requires c.loop-rt.from c.loop-rt.count c.print_page-printed.result.page c.loop-rt.invariant
-    c.print_page-printed.ensures c.in_default.is
+    let l = c.loop-page in
+    last c.args.g c.args.k c.requires l.from l.count c.in_ok-page.page l.invariant c.in_ok-page.ensures c.in_default.is
 
-pub loop-rt-smaller : goal.loop-rt-smaller
-loop-rt-smaller c =
-    page_fewer c.args.g c.args.k c.requires c.loop-rt.from page_room c.print_page-printed.result.page
-    c.print_page-printed.ensures (omega arith) c.in-More.is
+pub loop-page-smaller : goal.loop-page-smaller
+loop-page-smaller c =
+    page_fewer c.args.g c.args.k c.requires c.loop-page.from page_room c.in_ok-page.page c.in_ok-page.ensures (omega arith) c.in-More.is
 
-pub loop-rt-preserved : goal.loop-rt-preserved
-loop-rt-preserved c =
-    next c.args.g c.args.k c.requires c.loop-rt.from c.loop-rt.count c.print_page-printed.result.page c.loop-rt.invariant
-    c.print_page-printed.ensures
+pub loop-page-preserved : goal.loop-page-preserved
+loop-page-preserved c =
+    let l = c.loop-page in
+    next c.args.g c.args.k c.requires l.from l.count c.in_ok-page.page l.invariant c.in_ok-page.ensures

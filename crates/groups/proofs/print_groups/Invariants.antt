@@ -5,8 +5,8 @@ use Rattle.group_pages.specs.Calls.{due_groups}
 use Rattle.group_pages.proofs.Walks.{WalkedGroups}
 use Rattle.groups.proofs.print_groups.Given as goal
 
-abbrev pub invariant-loop-rt : goal.invariant-loop-rt
-invariant-loop-rt l = WalkedGroups l.g l.k one_more 0 l.from l.count
+abbrev pub invariant-loop-page : goal.invariant-loop-page
+invariant-loop-page l = WalkedGroups l.g l.k one_more 0 l.from l.count
 
-abbrev pub decreases-loop-rt : goal.decreases-loop-rt
-decreases-loop-rt l = length (due_groups l.g l.k l.from)
+abbrev pub decreases-loop-page : goal.decreases-loop-page
+decreases-loop-page l = length (due_groups l.g l.k l.from)

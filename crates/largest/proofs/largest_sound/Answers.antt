@@ -2,12 +2,14 @@
 use Rattle.largest.proofs.Bests.{largest_none, largest_some}
 use Rattle.largest.proofs.largest_sound.Goals as goal
 
-pub returns-then-best-eq1 : goal.returns-then-best-eq1
-returns-then-best-eq1 c =
-    largest_none c.args.g _ c.requires c.root-root.result _ c.vertices-all.ensures c.size_table-table.result _ (c.root-root.ensures c.args.g c.requires c.vertices-all.ensures)
-    c.size_table-table.ensures c.largest_below-hunt.ensures c.if-best-eq1.true
+pub returns-in-None : goal.returns-in-None
+returns-in-None c =
+    let g = c.args.g.graph.now in
+    largest_none g _ c.args.g.is_sound c.root.result _ c.vertices-all.ensures c.size_table-table.result _
+    (c.root.ensures g c.args.g.is_sound c.vertices-all.ensures) c.size_table-table.ensures c.below.ensures c.in-None.is
 
-pub returns : goal.returns
-returns c =
-    largest_some c.args.g _ c.requires c.root-root.result _ c.vertices-all.ensures c.size_table-table.result _ (c.root-root.ensures c.args.g c.requires c.vertices-all.ensures)
-    c.size_table-table.ensures c.largest_below-hunt.ensures c.if-best-eq1.false
+pub returns-in-Some : goal.returns-in-Some
+returns-in-Some c =
+    let g = c.args.g.graph.now in
+    largest_some g _ c.args.g.is_sound c.root.result _ c.vertices-all.ensures c.size_table-table.result _
+    (c.root.ensures g c.args.g.is_sound c.vertices-all.ensures) c.size_table-table.ensures c.below.ensures _ c.in-Some.is

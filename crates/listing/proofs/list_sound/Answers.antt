@@ -4,5 +4,6 @@ use Rattle.listing.proofs.list_sound.Goals as goal
 
 pub returns : goal.returns
 returns c =
-    lists_all c.args.g _ _ _ c.root-root.result c.list_below-tally.result _ _ c.requires (c.root-root.ensures c.args.g c.requires c.vertices-all.ensures)
-    c.list_below-tally.ensures c.page_at.ensures
+    let g = c.args.g in
+    lists_all g.graph.now _ _ _ c.root-root.result _ _ g.is_sound (c.root-root.ensures g.graph.now g.is_sound c.vertices.ensures)
+    (rw c.empty.ensures at c.list_below.ensures)

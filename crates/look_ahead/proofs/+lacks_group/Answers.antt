@@ -15,31 +15,22 @@ decides t c =
 pub returns-then-is_short : goal.returns-then-is_short
 returns-then-is_short t c = finds_short _ _ _ _ (c.is_short.ensures c.if-is_short.true)
 
-pub returns-then-fewest : goal.returns-then-fewest
-returns-then-fewest t c = finds_narrow _ _ _ _ c.narrowest-fewest.result c.narrowest-fewest.ensures c.if-fewest.true
+pub returns-then-fewest-eq0 : goal.returns-then-fewest-eq0
+returns-then-fewest-eq0 t c =
+    finds_narrow _ _ _ _ c.narrowest-fewest.result c.narrowest-fewest.ensures c.if-fewest-eq0.true
 
-pub offset_bounds-positive-u : goal.offset_bounds-positive-u
-offset_bounds-positive-u t c = record { fits = omega (arith, (decides t (goal.at.offset_bounds-positive-u t c).After-lowest-u).small) }
-
-pub bounds-positive-u : goal.bounds-positive-u
-bounds-positive-u t c = (decides t (goal.at.bounds-positive-u t c).After-lowest-u).small
-
-pub offset_bounds-negative-u : goal.offset_bounds-negative-u
-offset_bounds-negative-u t c = record { fits = omega (arith, (decides t (goal.at.offset_bounds-negative-u t c).After-lowest-u).small) }
-
-pub bounds-negative-u : goal.bounds-negative-u
-bounds-negative-u t c = (decides t (goal.at.bounds-negative-u t c).After-lowest-u).small
-
-pub lacks_group-first-requires : goal.lacks_group-first-requires
-lacks_group-first-requires t c =
-    (put_falls (decides t (goal.at.lacks_group-first-requires t c).After-lowest-u) _ _ _ c.put_in.ensures, tt)
+pub partners-requires : goal.partners-requires
+partners-requires t c = (decides t (goal.at.partners-requires t c).After-lowest-u).small
 
 pub lacks_group-requires : goal.lacks_group-requires
 lacks_group-requires t c =
-    (out_falls (decides t (goal.at.lacks_group-requires t c).After-lowest-u) _ c.leave_out.ensures, tt)
+    (put_falls (decides t (goal.at.lacks_group-requires t c).After-lowest-u) _ _ _ c.put_in.ensures, tt)
+
+pub lacks_group-requires-2 : goal.lacks_group-requires-2
+lacks_group-requires-2 t c =
+    (out_falls (decides t (goal.at.lacks_group-requires-2 t c).After-lowest-u) _ c.leave_out.ensures, tt)
 
 pub returns : goal.returns
 returns t c e =
-    finds_both _ _ _ _ c.lowest-u.result t (decides t (goal.at.returns t c).After-lowest-u) c.if-left-eq0.false _ _
-    c.put_in.ensures c.leave_out.ensures (λ _. c.lacks_group-first.ensures (not-false _ c.if-not-first.false))
-    (λ _. c.lacks_group.ensures e) refl
+    finds_both _ _ _ _ c.lowest-u.result t (decides t (goal.at.returns t c).After-lowest-u) c.if-at-eq0.false
+    _ c.partners.ensures _ _ c.put_in.ensures c.leave_out.ensures c.in_ok-rest.ensures (λ _. c.lacks_group-2.ensures e) refl

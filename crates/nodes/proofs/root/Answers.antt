@@ -7,4 +7,4 @@ use Rattle.nodes.proofs.root.Goals as goal
 pub returns : goal.returns
 returns c any so is =
     let p = c.partners-joined in
-    root_of _ (to_sound _ so) _ p.result (search rules) is p.ensures c.node_of.result c.node_of.ensures
+    root_of _ (to_sound _ so) _ p.result (search rules) is p.ensures

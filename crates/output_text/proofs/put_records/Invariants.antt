@@ -1,14 +1,10 @@
--- `output_text::put_records` meets its contract. The lines of the records from i on are to come, and each has room. Assumes nothing.
-use Prim.Native.Nat.{◌-◌, ◌*◌, ◌≤◌}
-use Rattle.vertex_set.specs.Ranges.{gather}
-use Rattle.vertex_set.proofs.Buffers.{Laid}
+-- `output_text::put_records` meets its contract. The lines of the records so far stand there, and each had room. Assumes nothing.
+use Rattle.std.specs.Prelude.{flat_map}
+use Rattle.std.proofs.Common.{◌≡◌, ◌*◌, ◌≤◌, take, length}
 use Rattle.report.specs.Lines.{longest_line}
-use Rattle.output_text.specs.Records.{records_text}
-use Rattle.output_text.proofs.Texts.{line_at}
+use Rattle.output_text.specs.Records.{record_line}
 use Rattle.output_text.proofs.put_records.Given as goal
 
-abbrev pub invariant-loop-i : goal.invariant-loop-i
-invariant-loop-i l = (l.at ≤ longest_line * l.i) × Laid (records_text l.records) l.initial.text l.text l.at (gather (l.count - l.i) l.i (line_at l.records))
-
-abbrev pub decreases-loop-i : goal.decreases-loop-i
-decreases-loop-i l = l.count - l.i
+abbrev pub invariant-loop-record : goal.invariant-loop-record
+invariant-loop-record l =
+    (length l.text.bytes ≤ longest_line * l.record-index) × (l.text.bytes ≡ flat_map record_line (take l.record-index l.record-items))

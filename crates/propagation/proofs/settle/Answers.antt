@@ -1,32 +1,14 @@
 -- `propagation::settle` meets its contract. The vertices that are not left are in, as far as they fit. Assumes nothing.
-use native.Mathlib.Omega.{arith}
 use borrow.Author.Rules.{rules}
-use Rattle.vertex_set.proofs.LowestVertex.{lowest_lt, size_rest}
 use Rattle.propagation.proofs.Settling.{settled_begin, settled_step}
 use Rattle.propagation.proofs.settle.Goals as goal
 
-pub loop-left-init : goal.loop-left-init
-loop-left-init c = settled_begin _ _ _ _ c.ranges.held.fits
+pub loop-u-init : goal.loop-u-init
+loop-u-init c =
+    let a = c.args in
+    let begin = settled_begin a.g.now.positive a.g.now.negative a.at a.held c.ranges.held.fits in
+    search (rules, begin)
 
-pub offset_bounds-positive-u : goal.offset_bounds-positive-u
-offset_bounds-positive-u c = omega (arith, c.lowest-u.ensures, lowest_lt _ (search rules) c.loop-left.invariant.traversal.fits)
-
-pub bounds-positive-u : goal.bounds-positive-u
-bounds-positive-u c = omega (arith, c.lowest-u.ensures, lowest_lt _ (search rules) c.loop-left.invariant.traversal.fits)
-
-pub offset_bounds-negative-u : goal.offset_bounds-negative-u
-offset_bounds-negative-u c = omega (arith, c.lowest-u.ensures, lowest_lt _ (search rules) c.loop-left.invariant.traversal.fits)
-
-pub bounds-negative-u : goal.bounds-negative-u
-bounds-negative-u c = omega (arith, c.lowest-u.ensures, lowest_lt _ (search rules) c.loop-left.invariant.traversal.fits)
-
-pub loop-left-smaller : goal.loop-left-smaller
-loop-left-smaller c = omega (arith, size_rest _ (search rules) c.loop-left.invariant.traversal.fits)
-
-pub loop-left-preserved : goal.loop-left-preserved
-loop-left-preserved c =
-    settled_step _ _ _ _ c.loop-left.invariant (search rules) c.lowest-u.result c.lowest-u.ensures
-    c.put_in_if_open-node.result c.put_in_if_open-node.ensures
-
-pub returns : goal.returns
-returns c = record { subset = c.loop-left.invariant.fewer; settles = c.loop-left.invariant.stands }
+pub loop-u-preserved : goal.loop-u-preserved
+loop-u-preserved c =
+    settled_step _ _ _ _ c.in-Some.ensures.steps c.loop-u.invariant c.partners.ensures c.put_in_if_open-node.ensures

@@ -1,20 +1,18 @@
--- `reduction::able_table` meets its contract. The rows before p are filled with their able vertices. Assumes nothing.
-use native.Mathlib.Omega.{arith}
-use mathlib.Core.Path.{refl}
+-- `reduction::able_table` meets its contract. The rows of able vertices that are not left are filled. Assumes nothing.
+use mathlib.Core.Path.{subst}
+use Prim.Native.Nat.{ℕ}
 use borrow.Author.Rules.{rules}
-use Rattle.bit_matrix.proofs.Matrices.{fill_begin, fill_step, fill_end}
-use Rattle.reduction.specs.RoundTables.{able_table}
-use Rattle.reduction.proofs.RoundTables.{able_row}
+use Rattle.reduction.proofs.AbleTables.{Filling, filling_begin, filling_step, filling_end}
 use Rattle.reduction.proofs.able_table.Goals as goal
 
 pub loop-p-init : goal.loop-p-init
-loop-p-init c = (omega arith, fill_begin _ _ refl)
+loop-p-init c = let begin = filling_begin c.args.able c.args.own.now c.ranges.able.fits in search (rules, begin)
 
 pub loop-p-preserved : goal.loop-p-preserved
-loop-p-preserved c =
-    let l = c.loop-p in
-    (omega arith, fill_step l.invariant.1 _ (search rules) (able_row _ _ l.p c.ranges.able.fits c.choose.ensures))
+loop-p-preserved c = filling_step c.args.able c.args.own.now c.in-Some.ensures.steps c.loop-p.invariant
 
 pub returns : goal.returns
-unfolding able_table
-returns c = fill_end c.loop-p.invariant.1 c.loop-p-test.false
+returns c =
+    let l = c.loop-p in
+    filling_end c.args.able c.args.own.now c.ranges.able.fits
+    (subst (λ (z : ℕ). Filling c.args.able c.args.own.now z l.rows) c.in-None.ensures.steps.0 l.invariant)

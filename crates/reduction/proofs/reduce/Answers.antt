@@ -1,45 +1,26 @@
 -- `reduction::reduce` meets its contract. The check decides, then the rounds of a sound graph come to its reduction. Assumes nothing.
-use mathlib.Core.Path.{sym, ap, ◌∙◌, subst}
+use Prim.Native.Nat.{ℕ}
+use mathlib.Core.Path.{◌≡◌, sym, ap, ◌∙◌, subst}
+use Rattle.std.specs.Prelude.{Result, Ok}
 use Rattle.signed_graph.specs.declared.SignedGraph.{SignedGraph}
-use Rattle.signed_graph.specs.declared.Check.{Check}
-use Rattle.signed_graph.specs.declared.Check.TheVariants.{Refused}
-use Rattle.signed_graph.specs.Calls.{check_number}
-use Rattle.signed_graph.proofs.Calls.{not_accepted, accepted_sound}
+use Rattle.signed_graph.specs.declared.Refusal.{Refusal}
+use Rattle.signed_graph.specs.Calls.{checked}
+use Rattle.signed_graph.proofs.Calls.{accepted_sound}
 use Rattle.signed_graph.proofs.Soundness.{to_sound}
 use Rattle.reduction.specs.declared.Reduced.{Reduced}
-use Rattle.reduction.specs.Reductions.{Reduction, reduced_graph, looks, reduced_by}
+use Rattle.reduction.specs.Reductions.{Reduction, reduced_graph}
 use Rattle.reduction.proofs.Reductions.{rounds_reduce}
 use Rattle.reduction.proofs.reduce.Goals as goal
 
-pub reduce_sound-requires : goal.reduce_sound-requires
-reduce_sound-requires c =
-    let k = c.check_call in
-    let a = c.args in
-    accepted_sound a.g a.k (sym k.ensures.answer ∙ c.in-Accepted.is)
+-- the graph of an answer
+graph_of : (x r : Reduced) (graph : SignedGraph) (looks : ℕ) → ◌≡◌ {A = Result Reduced Refusal} (Ok x) (Ok r)
+    → x ≡ record { graph = graph; looks = looks } → graph ≡ r.graph
+graph_of x r graph looks e is = cc
 
-pub returns-in-Refused : goal.returns-in-Refused
-returns-in-Refused c =
-    let k = c.check_call in
+pub returns-clause-words : goal.returns-clause-words
+returns-clause-words c =
     let a = c.args in
-    let why = c.in-Refused.refusal in
-    let e = sym c.in-Refused.is in
-    record {
-      answer =
-          ap (λ (g : SignedGraph). record { outcome = Refused why; graph = g; looks = 0 }) c.new.ensures
-          ∙ ap (λ (x : Check). reduced_by x (reduced_graph a.g a.k) (looks a.g a.k)) (e ∙ k.ensures.answer);
-      number = ap check_number e ∙ k.ensures.number;
-      words = not_accepted why;
-    }
-
-pub returns-in-Accepted : goal.returns-in-Accepted
-returns-in-Accepted c =
-    let k = c.check_call in
-    let a = c.args in
-    let e = sym c.in-Accepted.is in
-    let so = to_sound a.g (accepted_sound a.g a.k (sym k.ensures.answer ∙ sym e)) in
-    let r = c.reduce_sound.ensures in
-    record {
-      answer = r ∙ ap (λ (x : Check). reduced_by x (reduced_graph a.g a.k) (looks a.g a.k)) (e ∙ k.ensures.answer);
-      number = ap (λ (x : Reduced). check_number x.outcome) r ∙ ap check_number e ∙ k.ensures.number;
-      words = λ _. subst (Reduction a.g a.k) (sym (ap (λ (x : Reduced). x.graph) r)) (rounds_reduce a.g a.k so);
-    }
+    let so = to_sound a.g (accepted_sound a.g a.k (sym c.check_call.ensures.answer ∙ ap checked c.in_ok-sound.was)) in
+    λ r e.
+    let same = ap (λ g. reduced_graph g a.k) (sym c.in_ok-sound.ensures.graph) ∙ graph_of _ r _ _ e c.reduce_sound.ensures in
+    subst (Reduction a.g a.k) same (rounds_reduce a.g a.k so)

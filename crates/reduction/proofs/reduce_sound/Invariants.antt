@@ -1,17 +1,13 @@
--- `reduction::reduce_sound` meets its contract. What is kept is what the next round starts with. Assumes nothing.
-use mathlib.Core.Bool.{true}
+-- `reduction::reduce_sound` meets its contract. The round is the next one, and its looks are counted. Assumes nothing.
 use mathlib.Core.Path.{◌≡◌}
-use Rattle.vertex_set.specs.Sets.{below}
-use Rattle.signed_graph.specs.declared.SignedGraph.{SignedGraph}
 use Rattle.signed_graph.specs.Graphs.{edge_count}
-use Rattle.signed_graph.specs.Soundness.{sound}
-use Rattle.reduction.specs.Reductions.{unmasked}
-use Rattle.reduction.proofs.Reaching.{Reached}
+use Rattle.reduction.specs.Reductions.{looks_at}
+use Rattle.reduction.proofs.Reaching.{Looking}
 use Rattle.reduction.proofs.reduce_sound.Given as goal
 
--- of the graph that the call was given, whichever it is: the loop has only what its first round starts with
-abbrev pub invariant-loop-seen : goal.invariant-loop-seen
-invariant-loop-seen l = (g : SignedGraph) → sound g ≡ true → l.initial.kept ≡ unmasked g → l.initial.look ≡ below g.n → Reached g l.k l.kept l.look l.total
+abbrev pub invariant-loop-next : goal.invariant-loop-next
+invariant-loop-next l =
+    record { seen_are : l.seen ≡ looks_at l.round.graph l.round.look; looking : Looking l.g.graph.now l.k l.round.graph l.round.look l.looks }
 
-abbrev pub decreases-loop-seen : goal.decreases-loop-seen
-decreases-loop-seen l = edge_count l.kept
+abbrev pub decreases-loop-next : goal.decreases-loop-next
+decreases-loop-next l = edge_count l.round.graph

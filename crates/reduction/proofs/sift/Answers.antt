@@ -1,40 +1,35 @@
 -- `reduction::sift` meets its contract. The members that are not left and failed are struck out. Assumes nothing.
 use native.Mathlib.Omega.{arith}
 use borrow.Author.Rules.{rules}
-use borrow.Author.Tests.{le-leb}
+use borrow.Author.Tests.{le-leb, lt-leb}
 use lib.Bits.{bit_and}
 use lib.ListN.{get_or}
 use Rattle.vertex_set.specs.Sets.{size}
-use Rattle.vertex_set.proofs.LowestVertex.{lowest_lt, size_rest}
 use Rattle.reduction.specs.RoundTables.{reaches}
-use Rattle.reduction.proofs.Striking.{sifted_whole, sifting_begin, sifting_step, sifting_end}
+use Rattle.reduction.proofs.Striking.{sifted_whole, sifting_begin, sifting_stays, sifting_strikes, sifting_end}
 use Rattle.reduction.proofs.sift.Goals as goal
 
-pub returns-then-x-eq0 : goal.returns-then-x-eq0
+pub returns-then-demand-eq0 : goal.returns-then-demand-eq0
 unfolding reaches
-returns-then-x-eq0 c =
+returns-then-demand-eq0 c =
     let v = c.args in
     sifted_whole _ _ _ c.ranges.s.fits
-    (λ q. le-leb v.x (size (bit_and v.a (get_or v.rows.now q 0))) (omega (arith, c.if-x-eq0.true)))
+    (λ q. le-leb v.demand.least (size (bit_and v.demand.set (get_or v.rows.now q 0))) (omega (arith, c.if-demand-eq0.true)))
 
-pub loop-left-init : goal.loop-left-init
-loop-left-init c = sifting_begin _ _ _ c.ranges.s.fits
+pub loop-q-init : goal.loop-q-init
+loop-q-init c =
+    let v = c.args in
+    let begin = sifting_begin v.s v.look (reaches v.rows.now v.demand.set v.demand.least) c.ranges.s.fits in search (rules, begin)
 
-pub offset_bounds-rows-q : goal.offset_bounds-rows-q
-offset_bounds-rows-q c = omega (arith, c.lowest-q.ensures, lowest_lt _ (search rules) c.loop-left.invariant.fits)
-
-pub bounds-rows-q : goal.bounds-rows-q
-bounds-rows-q c = omega (arith, c.lowest-q.ensures, lowest_lt _ (search rules) c.loop-left.invariant.fits)
-
-pub loop-left-smaller : goal.loop-left-smaller
-loop-left-smaller c = omega (arith, size_rest _ (search rules) c.loop-left.invariant.fits)
-
-pub loop-left-preserved : goal.loop-left-preserved
+pub loop-q-preserved-then-size-demand : goal.loop-q-preserved-then-size-demand
 unfolding reaches
-loop-left-preserved c =
-    let l = c.loop-left in
-    let q = c.lowest-q in
-    sifting_step l.invariant (search rules) q.result c.strike-kept.result _ q.ensures c.has-stays.ensures c.strike-kept.ensures
+loop-q-preserved-then-size-demand c =
+    sifting_strikes c.loop-q.invariant c.in-Some.ensures.steps _ c.single.ensures (lt-leb _ _ (omega (arith, c.size.ensures, c.if-size-demand.true)))
+
+pub loop-q-preserved : goal.loop-q-preserved
+unfolding reaches
+loop-q-preserved c =
+    sifting_stays c.loop-q.invariant c.in-Some.ensures.steps (le-leb _ _ (omega (arith, c.size.ensures, c.if-size-demand.false)))
 
 pub returns : goal.returns
-returns c = sifting_end c.loop-left.invariant c.loop-left-test.false
+returns c = sifting_end c.loop-q.invariant c.in-None.ensures.steps.0

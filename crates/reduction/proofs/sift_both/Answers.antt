@@ -9,5 +9,5 @@ pub returns : goal.returns
 returns c =
     let a = c.args in
     c.sift-2.ensures
-    ∙ ap (λ (z : ℕ). sifted z a.look (reaches a.positive.now a.a a.x)) c.sift.ensures
-    ∙ sifted_twice a.s a.look (reaches a.positive.now a.a a.x) (reaches a.negative.now a.b a.y)
+    ∙ ap (λ (z : ℕ). sifted z a.look (reaches a.g.now.positive a.positive.set a.positive.least)) c.sift.ensures
+    ∙ sifted_twice a.s a.look (reaches a.g.now.positive a.positive.set a.positive.least) (reaches a.g.now.negative a.negative.set a.negative.least)
