@@ -22,16 +22,16 @@ pub fn new(n: u64, graph: &mut [u64]) -> Result<(), CallRefusal>
 pub fn check_sound(graph: &[u64]) -> Result<(), CallRefusal>
     ensures { call_number result ≡ check_sound_returns graph.now }
 {
-    let g = c_words::read_graph(graph)?;
-    Ok(signed_graph::check_graph(g)?)
+    c_words::check_graph(graph)?;
+    Ok(signed_graph::check_graph(c_words::graph_at(graph))?)
 }
 
 // Whether a call on the graph with threshold k is refused.
 pub fn check_call(graph: &[u64], k: u64) -> Result<(), CallRefusal>
     ensures { call_number result ≡ check_call_returns graph.now k }
 {
-    let g = c_words::read_graph(graph)?;
-    Ok(signed_graph::check_call(g, k)?)
+    c_words::check_graph(graph)?;
+    Ok(signed_graph::check_call(c_words::graph_at(graph), k)?)
 }
 
 // Writes the graph of an edge list or an amendment list, and the place of its fault.
@@ -56,9 +56,8 @@ pub fn encode(graph: &[u64], out: &mut [u8], answer: &mut [u64]) -> Result<(), C
     ensures bytes { out.new ≡ encode_buffer graph.now out.old answer.old }
     ensures size { answer.new ≡ encode_answer graph.now out.old answer.old }
 {
-    let g = c_words::read_graph(graph)?;
-    c_words::check_answer(answer, 1)?;
-    let encoded = canonical::encode(g, out);
+    c_words::check_arrays(graph, answer, 1)?;
+    let encoded = canonical::encode(c_words::graph_at(graph), out);
     answer[0] = encoded.unwrap_or(0) as u64;
     encoded?;
     Ok(())
@@ -76,9 +75,9 @@ pub fn reduce(
     ensures words { reduced.new ≡ reduce_graph graph.now k reduced.old answer.old }
     ensures looks { answer.new ≡ reduce_answer graph.now k reduced.old answer.old }
 {
-    let g = c_words::read_graph(graph)?;
+    c_words::check_graph(graph)?;
     c_words::check_arrays(reduced, answer, 1)?;
-    let done = reduction::reduce(g, k);
+    let done = reduction::reduce(c_words::graph_at(graph), k);
     let left = reduction::left_by(&done);
     c_words::put_graph(&left.graph, reduced);
     answer[0] = left.looks;

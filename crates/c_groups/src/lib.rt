@@ -34,9 +34,8 @@ pub fn classify(graph: &[u64], k: u64, set: u64, answer: &mut [u64]) -> Result<(
     ensures number { call_number result ≡ classify_returns graph.now k answer.old }
     ensures words { answer.new ≡ classify_answer graph.now k set answer.old }
 {
-    let g = c_words::read_graph(graph)?;
-    c_words::check_answer(answer, 4)?;
-    let classified = clique::classify(g, k, set);
+    c_words::check_arrays(graph, answer, 4)?;
+    let classified = clique::classify(c_words::graph_at(graph), k, set);
     answer[..4].copy_from_slice(&classified.map_or([0; 4], verdict_words));
     classified?;
     Ok(())

@@ -8,7 +8,7 @@ use Rattle.pages.specs.declared.Bookmark.{Bookmark}
 use Rattle.pages.specs.declared.Bookmark.TheVariants.{Start, After}
 use Rattle.pages.specs.Answers.{mark_kind}
 use Rattle.c_words.specs.Graphs.{graph_words}
-use Rattle.c_words.specs.Refusals.{graph_refusal, answer_refusal, own_refusal}
+use Rattle.c_words.specs.Refusals.{own_refusal}
 use Rattle.c_pages.specs.Refusals.{kind_refusal, page_refusal}
 
 -- where it is a refusal of the interface itself, it is from 101 up
@@ -32,19 +32,13 @@ module _ (graph answer : ℕ) where
   unfolding page_refusal
   page_high kind = grind (arith, nat_tests)
 
--- the graph is looked at first, then the answer, then the kind
-pub page_graph : (graph answer kind : ℕ) → graph_refusal graph ≢ 0 → page_refusal graph answer kind ≡ graph_refusal graph
-unfolding graph_refusal page_refusal
-page_graph graph answer kind = grind (arith, nat_tests)
+-- both arrays are looked at before the kind
+pub page_arrays : (graph answer kind : ℕ) → own_refusal graph answer 4 ≢ 0 → page_refusal graph answer kind ≡ own_refusal graph answer 4
+unfolding own_refusal page_refusal
+page_arrays graph answer kind = grind (arith, nat_tests)
 
-pub page_answer : (graph answer kind : ℕ) → graph_refusal graph ≡ 0 → answer_refusal answer 4 ≢ 0
-    → page_refusal graph answer kind ≡ answer_refusal answer 4
-unfolding graph_refusal answer_refusal page_refusal
-page_answer graph answer kind = grind (arith, nat_tests)
+pub page_mark : (graph answer kind : ℕ) → own_refusal graph answer 4 ≡ 0 → page_refusal graph answer kind ≡ kind_refusal kind
+unfolding own_refusal page_refusal
+page_mark graph answer kind = grind (arith, nat_tests)
 
-pub page_kind : (graph answer kind : ℕ) → graph_refusal graph ≡ 0 → answer_refusal answer 4 ≡ 0
-    → page_refusal graph answer kind ≡ kind_refusal kind
-unfolding graph_refusal answer_refusal page_refusal
-page_kind graph answer kind = grind (arith, nat_tests)
-
-pub ruleset page_refusals = (page_graph, page_answer, page_kind)
+pub ruleset page_refusals = (page_arrays, page_mark)

@@ -53,10 +53,9 @@ pub fn list_page(
     ensures bytes { out.new ≡ list_page_buffer graph.now k kind set out.old answer.old }
     ensures words { answer.new ≡ list_page_answer graph.now k kind set out.old answer.old }
 {
-    let g = c_words::read_graph(graph)?;
-    c_words::check_answer(answer, 4)?;
+    c_words::check_arrays(graph, answer, 4)?;
     let from = mark_at(kind, set)?;
-    let page = listing::list_page(g, k, from, out);
+    let page = listing::list_page(c_words::graph_at(graph), k, from, out);
     answer[..4].copy_from_slice(&pages::page_values(page));
     Ok(page.outcome?)
 }

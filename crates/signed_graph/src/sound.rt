@@ -20,7 +20,7 @@ impl<'a> SoundGraph<'a> {
         ensures answer { checked result ≡ graph_check g.now }
         ensures graph { IfOk result (λ s. s.graph.now ≡ g.now) }
     {
-        crate::check_graph(*g)?;
+        crate::pass_graph(g)?;
         Ok(SoundGraph { graph: g })
     }
 
@@ -29,7 +29,7 @@ impl<'a> SoundGraph<'a> {
         ensures answer { checked result ≡ check_of g.now k }
         ensures graph { IfOk result (λ s. s.graph.now ≡ g.now) }
     {
-        crate::check_call(*g, k)?;
+        crate::pass_call(g, k)?;
         Ok(SoundGraph { graph: g })
     }
 }
