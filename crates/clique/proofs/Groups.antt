@@ -44,6 +44,11 @@ module _ (k l r : ℕ) where
   least_floor two a b =
       and_intro (leb 2 (l + r) && leb k l) (leb k r) (and_intro (leb 2 (l + r)) (leb k l) (le-leb 2 (l + r) two) (le-leb k l a)) (le-leb k r b)
 
+  -- for k = 0 two in all are enough
+  pub floor_at_zero : k ≡ 0 → floor k l r ≡ leb 2 (l + r)
+  floor_at_zero zero =
+      iff (floor k l r) (leb 2 (l + r)) (λ e. le-leb 2 (l + r) (floor_two e)) (λ e. least_floor (leb-true 2 (l + r) e) (omega arith) (omega arith))
+
   -- from k = 1 on, k each is enough
   pub floor_from_one : 1 ≤ k → floor k l r ≡ (leb k l && leb k r)
   floor_from_one pos =

@@ -1,16 +1,13 @@
--- `clique::large_enough` meets its contract. Assumes nothing.
+-- `clique::large_enough` meets its contract. For k = 0 two vertices in all are enough, and from k = 1 on k each. Assumes nothing.
+use mathlib.Core.Path.{sym, ◌∙◌}
 use native.Mathlib.Omega.{arith}
 use Rattle.std.proofs.lemmas.Bool.Decides.{nat_tests}
-use Rattle.vertex_set.proofs.SizeBounds.{size_64}
 use Rattle.clique.specs.Groups.{floor}
+use Rattle.clique.proofs.Groups.{floor_at_zero}
 use Rattle.clique.proofs.large_enough.Goals as goal
 
-pub overflow_add-result : goal.overflow_add-result
-overflow_add-result c = omega (arith, c.size.ensures, c.size-then-k-eq0.ensures, size_64 c.args.left, size_64 c.args.right)
-
 pub returns-then-k-eq0 : goal.returns-then-k-eq0
-unfolding floor
-returns-then-k-eq0 c = grind (arith, nat_tests)
+returns-then-k-eq0 c = c.have_two.ensures ∙ sym (floor_at_zero _ _ _ c.if-k-eq0.true)
 
 pub returns-then-k-size : goal.returns-then-k-size
 unfolding floor
