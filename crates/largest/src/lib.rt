@@ -103,9 +103,9 @@ fn none_larger_by_branching(at: Node, most: u64, table: &[u64; 64], g: &SignedGr
 impl<'a> Search<'a> {
     // None where it was seen that no group below the node has more vertices than the largest so far; else the count of nodes visited in
     // vain, as `look_ahead::prune` has it.
-    fn look_for_larger(&self, at: Node, hunt: Hunt) -> Option<u64>
+    fn look_for_larger(&self, at: Node, hunt: &Hunt) -> Option<u64>
         ensures { IsNone result → Finds self.now.table.now self.now.g.now.positive self.now.g.now.negative self.now.k at
-            hunt.best hunt.best }
+            hunt.now.best hunt.now.best }
     {
         let most = most(hunt.best);
         look_ahead::prune(at, self.k, self.g, hunt.idle, || {
@@ -113,31 +113,29 @@ impl<'a> Search<'a> {
         })
     }
 
-    // The largest of the largest group so far and of the groups below a node; of equals, the first.
-    fn below(&self, at: Node, hunt: Hunt) -> Hunt
-        ensures { Finds self.now.table.now self.now.g.now.positive self.now.g.now.negative self.now.k at hunt.best result.best }
+    // Finds the largest of the largest group so far and of the groups below a node; of equals, the first.
+    fn below(&self, at: Node, hunt: &mut Hunt)
+        ensures { Finds self.now.table.now self.now.g.now.positive self.now.g.now.negative self.now.k at hunt.old.best hunt.new.best }
     {
         if none_larger(at, most(hunt.best), |open, room| {
             bounds::is_bounded(open, room, self.table, self.g)
         }) {
-            return hunt;
+            return;
         }
         if nodes::is_short(at, self.k) {
-            return hunt;
+            return;
         }
         let undecided = nodes::undecided(at);
         if undecided == 0 {
-            return Hunt {
-                best: largest_leaf(at, self.k, hunt.best),
-                ..hunt
-            };
+            hunt.best = largest_leaf(at, self.k, hunt.best);
+            return;
         }
         let v = vertex_set::lowest(undecided);
-        let first = self.below(nodes::put_in(at, v, self.g.partners(v)), hunt);
+        self.below(nodes::put_in(at, v, self.g.partners(v)), hunt);
         let rest = nodes::leave_out(at, v);
-        match self.look_for_larger(rest, first) {
-            None => first,
-            Some(idle) => self.below(rest, Hunt { idle, ..first }),
+        if let Some(idle) = self.look_for_larger(rest, hunt) {
+            hunt.idle = idle;
+            self.below(rest, hunt);
         }
     }
 }
@@ -154,11 +152,12 @@ fn largest_sound(g: SoundGraph, k: u64) -> Result<Sides, Refusal>
         k,
         table: &table,
     };
-    let start = Hunt {
+    let mut hunt = Hunt {
         best: None,
         idle: 0,
     };
-    match search.below(nodes::root(all, graph), start).best {
+    search.below(nodes::root(all, graph), &mut hunt);
+    match hunt.best {
         None => Err(Refusal::NoGroup),
         Some(found) => Ok(found.sides),
     }

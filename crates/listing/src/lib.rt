@@ -26,24 +26,24 @@ struct Progress {
     pub idle: u64,
 }
 
-// The page with the chosen set of a node with nothing undecided, where that is a group and due.
-fn list_leaf(at: Node, k: u64, from: Bookmark, progress: Progress, out: &mut [u8]) -> Progress
-    ensures { AddsGroups from (leaf_items k from at) progress.page out.old result.page out.new }
+// Puts the chosen set of a node with nothing undecided on the page, where that is a group and due.
+fn list_leaf(at: Node, k: u64, from: Bookmark, progress: &mut Progress, out: &mut [u8])
+    ensures { AddsGroups from (leaf_items k from at) progress.old.page out.old progress.new.page out.new }
 {
     let chosen = Sides {
         left: at.left.chosen,
         right: at.right.chosen,
     };
     if !nodes::is_group(at, k) {
-        return progress;
+        return;
     }
     if !pages::is_due(from, chosen.left | chosen.right) {
-        return progress;
+        return;
     }
-    Progress {
+    *progress = Progress {
         page: group_pages::put_group(progress.page, chosen, out),
         idle: 0,
-    }
+    };
 }
 
 // Whether a bookmark's set has, below v, exactly the vertices of `chosen`.
@@ -65,31 +65,32 @@ fn advance(at: Node, k: u64, from: Bookmark, v: usize, g: &SignedGraph) -> Optio
     propagation::propagate(at, k, g)
 }
 
-// The page with the groups below a node that are due, in listing order, behind those that it has.
+// Puts the groups below a node that are due, in listing order, behind those that the page has.
 // kept: k, from and g go along beside what changes; a struct of the three would serve this one function.
 fn list_below(
     at: Node,
     k: u64,
     from: Bookmark,
     g: &SignedGraph,
-    progress: Progress,
+    progress: &mut Progress,
     out: &mut [u8],
-) -> Progress
-    ensures { Lists g.now.positive g.now.negative k from at progress.page out.old result.page out.new }
+)
+    ensures { Lists g.now.positive g.now.negative k from at progress.old.page out.old progress.new.page out.new }
 {
     let next = vertex_set::lowest(nodes::undecided(at));
     if pages::is_past(from, at.left.chosen | at.right.chosen, next) {
-        return progress;
+        return;
     }
     let Some(node) = advance(at, k, from, next, g) else {
-        return progress;
+        return;
     };
     let open = nodes::undecided(node);
     if open == 0 {
-        return list_leaf(node, k, from, progress, out);
+        list_leaf(node, k, from, progress, out);
+        return;
     }
     let v = vertex_set::lowest(open);
-    let first = list_below(
+    list_below(
         nodes::put_in(node, v, g.partners(v)),
         k,
         from,
@@ -97,23 +98,13 @@ fn list_below(
         progress,
         out,
     );
-    let End::Finished = first.page.end else {
-        return first;
+    let End::Finished = progress.page.end else {
+        return;
     };
     let rest = nodes::leave_out(node, v);
-    match look_ahead::look_ahead(rest, k, g, first.idle) {
-        None => first,
-        Some(idle) => list_below(
-            rest,
-            k,
-            from,
-            g,
-            Progress {
-                page: first.page,
-                idle,
-            },
-            out,
-        ),
+    if let Some(idle) = look_ahead::look_ahead(rest, k, g, progress.idle) {
+        progress.idle = idle;
+        list_below(rest, k, from, g, progress, out);
     }
 }
 
@@ -122,11 +113,12 @@ fn list_sound(g: SoundGraph, k: u64, from: Bookmark, out: &mut [u8]) -> Page
     ensures { HoldsGroups from out.old (due_groups g.entry.graph.now k from) result out.new }
 {
     let root = nodes::root(signed_graph::vertices(*g.graph), g.graph);
-    let start = Progress {
+    let mut progress = Progress {
         page: Page::empty(from),
         idle: 0,
     };
-    list_below(root, k, from, g.graph, start, out).page
+    list_below(root, k, from, g.graph, &mut progress, out);
+    progress.page
 }
 
 // The records of the first groups for k that are due at a bookmark, as many as fit, at the front of `out`.

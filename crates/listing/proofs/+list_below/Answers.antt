@@ -30,27 +30,27 @@ returns-then-open-eq0 t c =
 pub partners-requires : goal.partners-requires
 partners-requires t c = (decides t (goal.at.partners-requires t c).After-lowest-v).small
 
-pub list_below-first-requires : goal.list_below-first-requires
-list_below-first-requires t c =
-    (put_falls (decides t (goal.at.list_below-first-requires t c).After-lowest-v) _ _ _ c.put_in.ensures, tt)
+pub list_below-requires : goal.list_below-requires
+list_below-requires t c =
+    (put_falls (decides t (goal.at.list_below-requires t c).After-lowest-v) _ _ _ c.put_in.ensures, tt)
 
 pub returns-in_default-end : goal.returns-in_default-end
 returns-in_default-end t c =
     lists_full _ _ _ _ _ _ _ c.in-Some.node c.in-Some.ensures.advances c.lowest-v.result (omega arith) (cc) _
-    (put t (goal.at.returns-in_default-end t c).After-put_in) c.list_below-first.result.page _ c.list_below-first.ensures c.in_default-end.is
+    (put t (goal.at.returns-in_default-end t c).After-put_in) _ _ c.list_below.ensures c.in_default-end.is
 
-pub returns-in-None : goal.returns-in-None
-returns-in-None t c =
+pub returns-in_default-look_ahead : goal.returns-in_default-look_ahead
+returns-in_default-look_ahead t c =
     lists_in _ _ _ _ _ _ _ c.in-Some.node c.in-Some.ensures.advances c.lowest-v.result (omega arith) (cc) _
-    (put t (goal.at.returns-in-None t c).After-put_in) c.list_below-first.result.page _ c.list_below-first.ensures
-    _ c.leave_out-rest.ensures c.in-None.ensures
+    (put t (goal.at.returns-in_default-look_ahead t c).After-put_in) _ _ c.list_below.ensures
+    _ c.leave_out-rest.ensures c.in_default-look_ahead.ensures
 
-pub list_below-requires : goal.list_below-requires
-list_below-requires t c =
-    (out_falls (decides t (goal.at.list_below-requires t c).After-lowest-v) _ c.leave_out-rest.ensures, tt)
+pub list_below-requires-in-Some-look_ahead : goal.list_below-requires-in-Some-look_ahead
+list_below-requires-in-Some-look_ahead t c =
+    (out_falls (decides t (goal.at.list_below-requires-in-Some-look_ahead t c).After-lowest-v) _ c.leave_out-rest.ensures, tt)
 
 pub returns-in-Some-look_ahead : goal.returns-in-Some-look_ahead
 returns-in-Some-look_ahead t c =
     lists_both _ _ _ _ _ _ _ c.in-Some.node c.in-Some.ensures.advances c.lowest-v.result (omega arith) (cc) _
-    (put t (goal.at.returns-in-Some-look_ahead t c).After-put_in) c.list_below-first.result.page _ c.list_below-first.ensures
-    _ c.leave_out-rest.ensures _ _ c.list_below.ensures
+    (put t (goal.at.returns-in-Some-look_ahead t c).After-put_in) _ _ c.list_below.ensures
+    _ c.leave_out-rest.ensures _ _ c.list_below-in-Some-look_ahead.ensures

@@ -23,25 +23,25 @@ returns-then-is_short t c = finds_barren _ _ _ _ _ _ (finds_short _ _ _ _ (c.is_
 
 pub returns-then-undecided-eq0 : goal.returns-then-undecided-eq0
 returns-then-undecided-eq0 t c =
-    finds_leaf _ _ _ _ _ _ _ _ c.undecided-undecided.ensures c.if-undecided-eq0.true c.largest_leaf.ensures
+    finds_leaf _ _ _ _ _ _ _ _ c.undecided-undecided.ensures c.if-undecided-eq0.true c.largest_leaf-hunt.ensures
 
 pub partners-requires : goal.partners-requires
 partners-requires t c = (decides t (goal.at.partners-requires t c).After-lowest-v).small
 
-pub below-first-requires : goal.below-first-requires
-below-first-requires t c =
-    (put_falls (decides t (goal.at.below-first-requires t c).After-lowest-v) _ _ _ c.put_in.ensures, tt)
-
 pub below-requires : goal.below-requires
 below-requires t c =
-    (out_falls (decides t (goal.at.below-requires t c).After-lowest-v) _ c.leave_out-rest.ensures, tt)
+    (put_falls (decides t (goal.at.below-requires t c).After-lowest-v) _ _ _ c.put_in.ensures, tt)
 
-pub returns-in-None : goal.returns-in-None
-returns-in-None t c =
+pub below-requires-in-Some : goal.below-requires-in-Some
+below-requires-in-Some t c =
+    (out_falls (decides t (goal.at.below-requires-in-Some t c).After-lowest-v) _ c.leave_out-rest.ensures, tt)
+
+pub returns-in_default : goal.returns-in_default
+returns-in_default t c =
     finds_both _ _ _ _ _ _ _ c.lowest-v.result c.undecided-undecided.ensures c.if-undecided-eq0.false c.lowest-v.ensures _ c.partners.ensures
-    _ c.put_in.ensures _ c.below-first.ensures _ c.leave_out-rest.ensures _ (c.in-None.ensures refl)
+    _ c.put_in.ensures _ c.below.ensures _ c.leave_out-rest.ensures _ (c.in_default.ensures refl)
 
 pub returns-in-Some : goal.returns-in-Some
 returns-in-Some t c =
     finds_both _ _ _ _ _ _ _ c.lowest-v.result c.undecided-undecided.ensures c.if-undecided-eq0.false c.lowest-v.ensures _ c.partners.ensures
-    _ c.put_in.ensures _ c.below-first.ensures _ c.leave_out-rest.ensures _ c.below.ensures
+    _ c.put_in.ensures _ c.below.ensures _ c.leave_out-rest.ensures _ c.below-in-Some.ensures
