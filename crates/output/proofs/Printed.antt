@@ -8,12 +8,11 @@ use Rattle.signed_graph.specs.Calls.{Check, passed, check_by, check_of}
 use Rattle.clique.specs.Listing.{listing}
 use Rattle.largest.specs.Largest.{largest_group}
 use Rattle.commands.specs.declared.Fault.{Fault}
-use Rattle.commands.specs.Faults.{fault_number, fault_place}
+use Rattle.commands.specs.Faults.{fault_number, fault_place, graph_given}
 use Rattle.edge_list.specs.Faults.{FaultIn}
 use Rattle.edge_list.specs.Decoding.{decoded}
 use Rattle.edge_list.specs.Acceptance.{ListOf}
 use Rattle.edge_list.proofs.Answers.{words_accepted, words_refused, accepted_sound}
-use Rattle.report.specs.declared.Line.{Line}
 use Rattle.report.specs.Lines.{line_text, count_line, refusal_line, fault_line}
 use Rattle.output.specs.declared.Due.{Due}
 use Rattle.output.specs.Output.{
@@ -21,6 +20,7 @@ use Rattle.output.specs.Output.{
   due_by,
   due_of,
   due_for,
+  input_of,
   groups_text,
   line_of_largest,
   printed_of,
@@ -41,6 +41,19 @@ checked (Ok g) k d e = checked_by (check_of g k) g k d refl e
 
 pub due_checked : (input : List ℕ) (d : Due) → due_for input ≡ Ok d → check_of d.graph d.threshold ≡ passed
 due_checked input d e = checked (decoded (input_list input)) _ d e
+
+-- ---- what is due is the input's graph, for its threshold
+
+given_by : (c : Check) (g : SignedGraph) (k : ℕ) (d : Due) → due_by c g k ≡ Ok d → d ≡ record { graph = g; threshold = k }
+given_by (Err why) g k d e = cc
+given_by (Ok x) g k d e = cc
+
+given : (r : Result SignedGraph Fault) (k : ℕ) (d : Due) → due_of r k ≡ Ok d → d ≡ record { graph = graph_given r; threshold = k }
+given (Err f) k d e = cc
+given (Ok g) k d e = given_by (check_of g k) g k d e
+
+pub due_input : (input : List ℕ) (d : Due) → due_for input ≡ Ok d → d ≡ input_of input
+due_input input d e = given (decoded (input_list input)) _ d e
 
 -- ---- what is printed
 

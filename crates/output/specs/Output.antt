@@ -8,6 +8,7 @@ use Rattle.signed_graph.specs.Calls.{Check, check_of}
 use Rattle.clique.specs.Listing.{Item, listing}
 use Rattle.largest.specs.Largest.{largest_group}
 use Rattle.commands.specs.declared.Fault.{Fault}
+use Rattle.commands.specs.Faults.{graph_given}
 use Rattle.edge_list.specs.Decoding.{decoded}
 use Rattle.report.specs.declared.Line.{Line}
 use Rattle.report.specs.declared.Line.TheVariants as line
@@ -34,6 +35,10 @@ due_of (Ok g) k = due_by (check_of g k) g k
 
 abbrev pub due_for : List ℕ → Result Due Line
 due_for input = due_of (decoded (input_list input)) (input_threshold input)
+
+-- the graph and the threshold of an input, whether its groups are due or not
+abbrev pub input_of : List ℕ → Due
+input_of input = record { graph = graph_given (decoded (input_list input)); threshold = input_threshold input }
 
 -- one line a group
 unfoldable pub groups_text : List Item → List ℕ

@@ -4,7 +4,7 @@
 ghost use Rattle.std.specs.Prelude.{◌≡◌};
 ghost use Rattle.edge_list.specs.Decoding.{decoded};
 ghost use Rattle.largest.specs.Largest.{largest_group};
-ghost use Rattle.output.specs.Output.{line_of_largest, due_of, due_for, closing_lines};
+ghost use Rattle.output.specs.Output.{line_of_largest, due_of, due_for, input_of, closing_lines};
 
 use report::Line;
 use signed_graph::SignedGraph;
@@ -46,6 +46,19 @@ pub fn due_for(input: &[u8]) -> Result<Due, Line>
         Some((threshold, list)) => due_of(u64::from(*threshold), list),
         None => due_of(0, input),
     }
+}
+
+// The graph of an input and its threshold, whether its groups are due or not: a list that is refused has the graph of no
+// vertices.
+pub fn input_of(input: &[u8]) -> Due
+    ensures { result ≡ input_of input.now }
+{
+    let (threshold, list) = match input.split_first() {
+        Some((threshold, list)) => (u64::from(*threshold), list),
+        None => (0, input),
+    };
+    let graph = edge_list::decode(list).unwrap_or(SignedGraph::new(0));
+    Due { graph, threshold }
 }
 
 // The line of the largest group, or that there is none.

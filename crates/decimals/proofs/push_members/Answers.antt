@@ -1,37 +1,17 @@
--- `decimals::push_members` meets its contract. The members that are left are to come. Assumes nothing.
-use Rattle.std.proofs.Common.{◌≡◌, ℕ, ◌+◌, ◌≤◌, ◌<◌, ◌^◌, List, ◌++◌, length, sym, ap, ◌∙◌, arith, append_assoc, append-nil, length-append}
-use Rattle.vertex_set.specs.Sets.{over_members}
-use Rattle.vertex_set.specs.Members.{TakesLowest}
-use Rattle.vertex_set.proofs.LowestVertex.{rest_lt}
-use Rattle.vertex_set.proofs.Gathering.{over_none, over_lowest}
-use Rattle.decimals.specs.Decimals.{between}
+-- `decimals::push_members` meets its contract. The members are put together at the front of an array, as UTF-8. Assumes nothing.
+use Rattle.std.specs.Str.{IsUtf8}
+use Rattle.std.proofs.Common.{sym, subst}
+use Rattle.vertex_set.proofs.Buffers.{front_is}
+use Rattle.decimals.specs.Decimals.{members_between}
+use Rattle.decimals.proofs.Texts.{text_members, no_error}
 use Rattle.decimals.proofs.push_members.Goals as goal
 
--- of what is to come behind a text, the piece of the lowest member comes next
-module _ (f : ℕ → List ℕ) (text whole : List ℕ) {s p rest : ℕ} (t : TakesLowest s p rest) (fits : s < 2 ^ 64)
-    (e : text ++ over_members s f ≡ whole) where
-  taken : (text ++ f p) ++ over_members rest f ≡ whole
-  taken = rw (t.is_rest, append_assoc, t.is_lowest, ← over_lowest f s t.some fits) e
-
-  room : length text + length (f p) ≤ length whole
-  room = omega (arith, ap length taken, length-append (text ++ f p) (over_members rest f), length-append text (f p))
-
-pub push_number-requires : goal.push_number-requires
-push_number-requires g c =
-    let a = c.args in
-    let i = c.loop-p.invariant in
-    let f = between a.before.now a.after.now in
-    omega (arith, c.requires, room f _ _ c.in-Some.ensures.steps i.0 i.1, length-append a.text.now.bytes (over_members a.s f))
-
-pub loop-p-preserved : goal.loop-p-preserved
-loop-p-preserved g c =
-    let i = c.loop-p.invariant in
-    let t = c.in-Some.ensures.steps in
-    let f = between c.args.before.now c.args.after.now in
-    (rw t.is_rest (rest_lt 64 c.loop-p.p-iterator.left i.0), rw c.push_number.ensures (taken f _ _ t i.0 i.1))
-
-pub returns : goal.returns
-returns g c =
-    let f = between c.args.before.now c.args.after.now in
-    let i = c.loop-p.invariant in
-    sym (append-nil _) ∙ ap (λ (l : List ℕ). c.loop-p.text.bytes ++ l) (sym (over_none f)) ∙ rw (← c.in-None.ensures.steps.0) i.1
+pub unwrap-requires : goal.unwrap-requires
+unwrap-requires g c =
+    let b = c.as_bytes in
+    let a = c.as_bytes-2 in
+    let r = c.put_members-end in
+    let whole = members_between b.result.now a.result.now c.args.s in
+    let is = front_is whole _ _ r.result r.ensures.length r.ensures.bytes in
+    let u = text_members b.result.now a.result.now b.ensures.utf8 a.ensures.utf8 c.args.s in
+    no_error _ _ _ c.from_utf8.ensures.cases (λ e q. q.0 (subst IsUtf8 (sym is) u))
