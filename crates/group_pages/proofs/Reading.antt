@@ -1,14 +1,14 @@
 -- Records read back: the sides that a record says, the records of a listing one after the other, and those of a page.
 -- Assumes nothing.
-use Prim.Native.Nat.{ℕ, suc, ◌+◌, ◌*◌, ◌/◌, ◌^◌, ◌<◌}
+use Prim.Native.Nat.{ℕ, zero, suc, ◌+◌, ◌*◌, ◌/◌, ◌^◌, ◌<◌}
 use native.Mathlib.Omega.{arith}
 use mathlib.Core.Path.{◌≡◌, refl, sym, ap, ap₂, ◌∙◌, subst}
-use mathlib.Core.List.{List, [], ◌∷◌, ◌++◌, map}
+use mathlib.Core.List.{List, [], ◌∷◌, ◌++◌, map, flat_map}
 use Rattle.std.specs.Simd.{first_chunks}
 use lib.ListN.{length, take, drop, length-append}
 use lib.Seq.{take_at, drop_at, drop-drop}
 use Rattle.vertex_set.specs.Ranges.{gather}
-use Rattle.vertex_set.proofs.Gathering.{gather_shift}
+use Rattle.vertex_set.proofs.Gathering.{gather_shift, gather_cong}
 use Rattle.words.specs.Words.{word_bytes}
 use Rattle.words.proofs.Words.{value_bytes}
 use Rattle.signed_graph.specs.declared.SignedGraph.{SignedGraph}
@@ -69,6 +69,25 @@ records_back l = ap (λ (k : ℕ). first_chunks record_width k (records record_o
     chunks (x ∷ l) =
         ap₂ (λ (r : List ℕ) (t : List (List ℕ)). r ∷ t) (take_at (record_of x) (records record_of l) record_width (record_wide x))
         (ap (first_chunks record_width (length l)) (drop_at (record_of x) (records record_of l) record_width (record_wide x)) ∙ chunks l)
+
+-- what a function gives of the records of a listing, one after the other: of record 0, of record 1 and so on
+module _ (f : List ℕ → List ℕ) where
+  each_chunk : (k : ℕ) (l : List ℕ)
+      → flat_map f (first_chunks record_width k l) ≡ gather k 0 (λ i. f (take record_width (drop (record_width * i) l)))
+  unfolding gather flat_map
+  each_chunk zero l = refl
+  each_chunk (suc k) l =
+      ap (λ (r : List ℕ). f (take record_width l) ++ r)
+      (each_chunk k (drop record_width l)
+      ∙ sym (gather_shift (λ i. f (take record_width (drop (record_width * i) l))) (λ i. f (take record_width (drop (record_width * i) (drop record_width l)))) k 0
+      (λ j _ h. ap (λ (r : List ℕ). f (take record_width r))
+      (let e : record_width * suc j ≡ record_width + record_width * j = omega arith in
+      ap (λ (d : ℕ). drop d l) e ∙ sym (drop-drop (record_width * j) record_width l)))))
+
+  pub each_record : (l : List ℕ) → flat_map f (records_in l) ≡ gather (length l / record_width) 0 (λ i. f (record_at l i))
+  each_record l =
+      each_chunk (length l / record_width) l
+      ∙ gather_cong _ _ (length l / record_width) 0 (λ j _ h. ap f (sym (record_there l j (omega arith))))
 
 -- what a function gives of the records of groups, record by record, joined
 module _ (f : List ℕ → List ℕ) where
