@@ -33,8 +33,8 @@
  *     mastpickle_check_sound   5,120
  *     mastpickle_check_call    5,120
  *     mastpickle_decode        3,072
- *     mastpickle_encode        8,192
- *     mastpickle_classify     10,240
+ *     mastpickle_encode        5,120
+ *     mastpickle_classify      4,096
  *     mastpickle_reduce       11,264
  *     mastpickle_list_page    40,960
  *     mastpickle_largest      30,720
